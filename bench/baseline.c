@@ -1,0 +1,356 @@
+/*
+ * Scream and iScream (CAESAR version 1) in C, one block at a time: the yardstick of the benchmark.
+ *
+ * The S-boxes are bitsliced on the eight rows (Algorithms 3 and 4, and 5 with its round corrected).
+ * The L-boxes go by two tables of 256 words each, one for each byte of a row. Four byte tables, as
+ * the paper prints them, and 16-bit entries were slower with gcc -O3 on x86-64.
+ *
+ * The tables are indexed by secret bytes: this code is for measuring, not for use.
+ */
+
+#include <stddef.h>
+#include <stdint.h>
+#include <string.h>
+
+#if __BYTE_ORDER__ != __ORDER_LITTLE_ENDIAN__
+#error "rows are taken from 64-bit words, low byte first"
+#endif
+
+#define INLINE static inline __attribute__((always_inline))
+
+enum { SCREAM = 1, ISCREAM = 2 };
+
+/* A row, in the low 16 bits; the bits above are 0. */
+typedef uint32_t row;
+
+/* The rows of a state, a tweak or a key as two words: rows 0 to 3 and rows 4 to 7, lowest first. */
+typedef struct {
+    uint64_t low, high;
+} packed_rows;
+
+/* ---- L-boxes ---- */
+
+/* The products of the matrix and a word that has only a low byte, or only a high byte. */
+typedef struct {
+    uint32_t low[256], high[256];
+} l_box;
+
+static l_box scream_l, scream_l_inverse, iscream_l;
+
+/* Column i of the matrix: its product with the word that has only bit i. */
+static const uint16_t scream_columns[16] = {
+    0x385C, 0x52A9, 0x7BB3, 0x96C1, 0xD76D, 0x3AE0, 0xE524, 0xFEA5,
+    0x464B, 0xF1AF, 0xA133, 0x7F74, 0x6712, 0x7A6F, 0x701B, 0x8AB1,
+};
+
+/* iScream's matrix is its own inverse. */
+static const uint16_t iscream_columns[16] = {
+    0xFFFE, 0xCCC1, 0xAAA1, 0x9991, 0x6689, 0x5585, 0x3383, 0x007F,
+    0xE069, 0xD055, 0xB033, 0x700F, 0x0E69, 0x0D55, 0x0B33, 0x070F,
+};
+
+static void fill(l_box *l, const uint16_t columns[16])
+{
+    for (int byte = 0; byte < 256; byte++) {
+        uint32_t low = 0, high = 0;
+        for (int i = 0; i < 8; i++) {
+            if (byte >> i & 1) {
+                low ^= columns[i];
+                high ^= columns[8 + i];
+            }
+        }
+        l->low[byte] = low;
+        l->high[byte] = high;
+    }
+}
+
+/* Runs before main. The inverse of Scream's matrix is its transpose. */
+__attribute__((constructor)) static void make_tables(void)
+{
+    uint16_t transpose[16] = {0};
+    for (int i = 0; i < 16; i++)
+        for (int j = 0; j < 16; j++)
+            transpose[j] |= (uint16_t)((scream_columns[i] >> j & 1) << i);
+    fill(&scream_l, scream_columns);
+    fill(&scream_l_inverse, transpose);
+    fill(&iscream_l, iscream_columns);
+}
+
+INLINE void l_layer(const l_box *l, row w[8])
+{
+    for (int i = 0; i < 8; i++)
+        w[i] = l->low[w[i] & 0xFF] ^ l->high[w[i] >> 8];
+}
+
+/* ---- S-boxes ---- */
+
+INLINE void five_bits(row w[8])
+{
+    w[2] ^= w[0] & w[1];
+    w[1] ^= w[2];
+    w[3] ^= w[0] & w[4];
+    w[2] ^= w[3];
+    w[0] ^= w[3] & w[1];
+    w[4] ^= w[1];
+    w[1] ^= w[2] & w[4];
+    w[1] ^= w[0];
+}
+
+INLINE void five_bits_inverse(row w[8])
+{
+    w[1] ^= w[0];
+    w[1] ^= w[2] & w[4];
+    w[4] ^= w[1];
+    w[0] ^= w[3] & w[1];
+    w[2] ^= w[3];
+    w[3] ^= w[0] & w[4];
+    w[1] ^= w[2];
+    w[2] ^= w[0] & w[1];
+}
+
+/* Its own inverse. */
+INLINE void three_bits(row w[8])
+{
+    row t5 = w[5], t6 = w[6], t7 = w[7];
+    w[5] ^= ~t6 & t7;
+    w[6] ^= ~t7 & t5;
+    w[7] ^= ~t5 & t6;
+}
+
+/* Algorithm 3. */
+INLINE void scream_s(row w[8])
+{
+    five_bits(w);
+    w[0] ^= w[5];
+    w[1] ^= w[6];
+    w[2] ^= w[7];
+    w[3] ^= 0xFFFF;
+    w[4] ^= 0xFFFF;
+    three_bits(w);
+    w[5] ^= w[0];
+    w[6] ^= w[1];
+    w[7] ^= w[2];
+    five_bits(w);
+}
+
+/* Algorithm 4. */
+INLINE void scream_s_inverse(row w[8])
+{
+    five_bits_inverse(w);
+    w[7] ^= w[2];
+    w[6] ^= w[1];
+    w[5] ^= w[0];
+    three_bits(w);
+    w[4] ^= 0xFFFF;
+    w[3] ^= 0xFFFF;
+    w[2] ^= w[7];
+    w[1] ^= w[6];
+    w[0] ^= w[5];
+    five_bits_inverse(w);
+}
+
+/* A round of Algorithm 5, corrected: adds a function of a, b, c, d to four rows. */
+INLINE void four_bits(row to[4], row a, row b, row c, row d)
+{
+    row t0 = (a & b) ^ c;
+    row t2 = (c | b) ^ d;
+    row t3 = (t0 & d) ^ a;
+    row t1 = (t2 & a) ^ b;
+    to[0] ^= t0;
+    to[1] ^= t1;
+    to[2] ^= t2;
+    to[3] ^= t3;
+}
+
+/* Algorithm 5, its own inverse. */
+INLINE void iscream_s(row w[8])
+{
+    four_bits(w, w[4], w[5], w[6], w[7]);
+    four_bits(w + 4, w[0], w[1], w[2], w[3]);
+    four_bits(w, w[4], w[5], w[6], w[7]);
+}
+
+/* ---- Tweakeys ---- */
+
+INLINE packed_rows load(const uint8_t bytes[16])
+{
+    packed_rows x;
+    memcpy(&x.low, bytes, 8);
+    memcpy(&x.high, bytes + 8, 8);
+    return x;
+}
+
+/* Each of four rows rotated left by one bit. */
+INLINE uint64_t rotated(uint64_t rows)
+{
+    const uint64_t lowest = 0x0001000100010001;
+    return (rows & ~(lowest << 15)) << 1 | (rows >> 15 & lowest);
+}
+
+/* The different tweakeys of a cipher, in order of the step; returns how many: 3 or 2. */
+INLINE int tweakeys(int cipher, const uint8_t *key, const uint8_t *tweak, packed_rows tk[3])
+{
+    packed_rows k = load(key), t = load(tweak);
+    tk[0].low = k.low ^ t.low;
+    tk[0].high = k.high ^ t.high;
+    if (cipher == SCREAM) {
+        tk[1].low = tk[0].low ^ t.high;
+        tk[1].high = k.high ^ t.low;
+        tk[2].low = k.low ^ t.high;
+        tk[2].high = tk[0].high ^ t.low;
+        return 3;
+    }
+    tk[1].low = rotated(t.low);
+    tk[1].high = rotated(t.high);
+    return 2;
+}
+
+INLINE void add_tweakey(row w[8], const packed_rows *tk)
+{
+    for (int i = 0; i < 4; i++) {
+        w[i] ^= (uint16_t)(tk->low >> 16 * i);
+        w[4 + i] ^= (uint16_t)(tk->high >> 16 * i);
+    }
+}
+
+/* ---- Algorithm 1 and its inverse ---- */
+
+INLINE void load_rows(row w[8], const uint8_t block[16])
+{
+    packed_rows x = load(block);
+    for (int i = 0; i < 4; i++) {
+        w[i] = (uint16_t)(x.low >> 16 * i);
+        w[4 + i] = (uint16_t)(x.high >> 16 * i);
+    }
+}
+
+INLINE void store_rows(uint8_t block[16], const row w[8])
+{
+    packed_rows x = {0, 0};
+    for (int i = 0; i < 4; i++) {
+        x.low |= (uint64_t)w[i] << 16 * i;
+        x.high |= (uint64_t)w[4 + i] << 16 * i;
+    }
+    memcpy(block, &x.low, 8);
+    memcpy(block + 8, &x.high, 8);
+}
+
+INLINE void encipher_block(int cipher, int steps, const uint8_t *key, const uint8_t *tweak,
+                           uint8_t *block)
+{
+    const l_box *l = cipher == SCREAM ? &scream_l : &iscream_l;
+    packed_rows tk[3];
+    int count = tweakeys(cipher, key, tweak, tk);
+    int next = 0;
+    uint8_t constant = 0;
+    row w[8];
+    load_rows(w, block);
+    add_tweakey(w, &tk[0]);
+    for (int step = 0; step < steps; step++) {
+        for (int round = 0; round < 2; round++) {
+            if (cipher == SCREAM)
+                scream_s(w);
+            else
+                iscream_s(w);
+            constant += 27;
+            w[0] ^= constant;
+            l_layer(l, w);
+        }
+        next = next == count - 1 ? 0 : next + 1;
+        add_tweakey(w, &tk[next]);
+    }
+    store_rows(block, w);
+}
+
+INLINE void decipher_block(int cipher, int steps, const uint8_t *key, const uint8_t *tweak,
+                           uint8_t *block)
+{
+    const l_box *l = cipher == SCREAM ? &scream_l_inverse : &iscream_l;
+    packed_rows tk[3];
+    int count = tweakeys(cipher, key, tweak, tk);
+    int next = steps % count;
+    uint8_t constant = (uint8_t)(27 * 2 * steps);
+    row w[8];
+    load_rows(w, block);
+    for (int step = 0; step < steps; step++) {
+        add_tweakey(w, &tk[next]);
+        next = next == 0 ? count - 1 : next - 1;
+        for (int round = 0; round < 2; round++) {
+            l_layer(l, w);
+            w[0] ^= constant;
+            constant -= 27;
+            if (cipher == SCREAM)
+                scream_s_inverse(w);
+            else
+                iscream_s(w);
+        }
+    }
+    add_tweakey(w, &tk[0]);
+    store_rows(block, w);
+}
+
+/* ---- Calls ---- */
+
+static int listed(uint8_t cipher, uint8_t steps)
+{
+    if (steps % 2 != 0)
+        return 0;
+    return (cipher == SCREAM && steps >= 6 && steps <= 12) ||
+           (cipher == ISCREAM && steps >= 8 && steps <= 14);
+}
+
+/* Enciphers a block in place under its tweak. Returns 0, or 1 where the suite is not listed. */
+uint32_t baseline_encipher(uint8_t cipher, uint8_t steps, const uint8_t *key, const uint8_t *tweak,
+                           uint8_t *block)
+{
+    if (!listed(cipher, steps))
+        return 1;
+    if (cipher == SCREAM)
+        encipher_block(SCREAM, steps, key, tweak, block);
+    else
+        encipher_block(ISCREAM, steps, key, tweak, block);
+    return 0;
+}
+
+/* Deciphers a block in place under its tweak. Returns 0, or 1 where the suite is not listed. */
+uint32_t baseline_decipher(uint8_t cipher, uint8_t steps, const uint8_t *key, const uint8_t *tweak,
+                           uint8_t *block)
+{
+    if (!listed(cipher, steps))
+        return 1;
+    if (cipher == SCREAM)
+        decipher_block(SCREAM, steps, key, tweak, block);
+    else
+        decipher_block(ISCREAM, steps, key, tweak, block);
+    return 0;
+}
+
+/* Enciphers `count` blocks in place, each under its own tweak; returns as baseline_encipher. */
+uint32_t baseline_encipher_blocks(uint8_t cipher, uint8_t steps, const uint8_t *key,
+                                  const uint8_t *tweaks, uint8_t *blocks, size_t count)
+{
+    if (!listed(cipher, steps))
+        return 1;
+    if (cipher == SCREAM)
+        for (size_t i = 0; i < count; i++)
+            encipher_block(SCREAM, steps, key, tweaks + 16 * i, blocks + 16 * i);
+    else
+        for (size_t i = 0; i < count; i++)
+            encipher_block(ISCREAM, steps, key, tweaks + 16 * i, blocks + 16 * i);
+    return 0;
+}
+
+/* Deciphers `count` blocks in place, each under its own tweak; returns as baseline_encipher. */
+uint32_t baseline_decipher_blocks(uint8_t cipher, uint8_t steps, const uint8_t *key,
+                                  const uint8_t *tweaks, uint8_t *blocks, size_t count)
+{
+    if (!listed(cipher, steps))
+        return 1;
+    if (cipher == SCREAM)
+        for (size_t i = 0; i < count; i++)
+            decipher_block(SCREAM, steps, key, tweaks + 16 * i, blocks + 16 * i);
+    else
+        for (size_t i = 0; i < count; i++)
+            decipher_block(ISCREAM, steps, key, tweaks + 16 * i, blocks + 16 * i);
+    return 0;
+}

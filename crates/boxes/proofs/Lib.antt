@@ -1,0 +1,4 @@
+pub mod Circuit
+pub mod Listings
+pub mod Matrix
+pub mod Inverses

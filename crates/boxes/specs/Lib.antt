@@ -1,0 +1,4 @@
+pub mod Rows
+pub mod Sbox
+pub mod Lbox
+pub mod Tables

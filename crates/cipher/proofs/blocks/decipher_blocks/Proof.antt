@@ -1,0 +1,45 @@
+-- By what `is_listed` answered.
+use mathlib.Core.Path.{_≡_, sym, ap, _∙_}
+use mathlib.Core.Bool.{true, false}
+use native.Mathlib.Omega.{arith}
+use borrow.Author.Tests.{not-true, not-false}
+use borrow.Author.Needs.{needs}
+use Rattle.cipher.specs.Blocks.{eachBlock}
+use Rattle.cipher.specs.Run.{backBlock}
+use Rattle.cipher.specs.Suite.{listed}
+use Rattle.cipher.proofs.Runs.{listed-steps, listed-answer, unlisted-answer, decipher-listed, decipher-unlisted}
+use Rattle.cipher.proofs.blocks.decipher_blocks.Statement.{statement}
+use Rattle.cipher.proofs.blocks.decipher_blocks.Tie as tie
+
+returns : tie.Need-returns
+returns c =
+    let a = c .before .before .before .before .args in
+    let e : listed (a .suite .cipher) (a .suite .steps) ≡ false = sym (c .before .is-listed .ensures) ∙ not-true (c .before .is-listed .result) (c .if1 .taken) in
+    (unlisted-answer (a .suite .cipher) (a .suite .steps) e, decipher-unlisted (a .suite .cipher) (a .suite .steps) (a .key) (a .tweaks .now) (a .blocks .now) e)
+
+run-back-requires : tie.Need-run-back-requires
+run-back-requires c κs =
+    let a = c .before .before .before .before .before .before .before .args in
+    omega (arith, listed-steps (a .suite .cipher) (a .suite .steps) (sym (c .before .before .before .before .is-listed .ensures) ∙ not-false (c .before .before .before .before .is-listed .result) (c .before .before .before .if1 .left)))
+
+returns-2 : tie.Need-returns-2
+returns-2 c =
+    let a = c .before .before .before .before .before .before .before .before .before .before .args in
+    let e : listed (a .suite .cipher) (a .suite .steps) ≡ true = sym (c .before .before .before .before .before .before .before .is-listed .ensures) ∙ not-false (c .before .before .before .before .before .before .before .is-listed .result) (c .before .before .before .before .before .before .if1 .left) in (
+      listed-answer (a .suite .cipher) (a .suite .steps) e,
+      c .before .before .run-back .ensures
+          ∙ ap (λ k. eachBlock (backBlock k 0 (a .suite .steps) true (a .key)) (a .tweaks .now) (a .blocks .now)) (c .before .before .before .before .cipher-of .ensures)
+          ∙ decipher-listed (a .suite .cipher) (a .suite .steps) (a .key) (a .tweaks .now) (a .blocks .now) e,
+    )
+
+pub decipher-blocks-spec : {M : Type 1} → statement M
+decipher-blocks-spec =
+    tie.close
+    (tie.spec
+    (λ c κs. search needs)
+    returns
+    (λ c. search needs)
+    (λ c κs. search needs)
+    run-back-requires
+    (λ c. search needs)
+    returns-2)

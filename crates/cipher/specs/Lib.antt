@@ -1,0 +1,9 @@
+pub mod Refusal
+pub mod Suite
+pub mod Block
+pub mod Tweakey
+pub mod Cipher
+pub mod Blocks
+pub mod State
+pub mod Schedule
+pub mod Run

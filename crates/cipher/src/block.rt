@@ -1,0 +1,66 @@
+// One block: enciphered, deciphered, and a step of each.
+use crate::refusal::Answer;
+use crate::suite::Cipher;
+use crate::suite::Suite;
+ghost use mathlib.Core.Path.{_≡_};
+ghost use Rattle.cipher.specs.Cipher.{enciphered, deciphered, stepped, unstepped};
+ghost use Rattle.cipher.specs.Suite.{suiteAnswer};
+
+// A block with the answer; with a refusal it is the block that was given.
+pub struct Outcome {
+    pub answer: Answer,
+    pub block: [u8; 16],
+}
+
+// The block enciphered, or refusal 1 and the block as it was.
+pub fn encipher(suite: Suite, key: [u8; 16], tweak: [u8; 16], block: [u8; 16]) -> Outcome
+    ensures { λ r. ⌜ (r .answer ≡ suiteAnswer (suite .cipher) (suite .steps)) × (r .block ≡ enciphered (suite .cipher) (suite .steps) key tweak block) ⌝ }
+{
+    let mut b = block;
+    let answer = crate::blocks::encipher_blocks(suite, key, &tweak, &mut b);
+    Outcome { answer, block: b }
+}
+
+// The block deciphered, or refusal 1 and the block as it was.
+pub fn decipher(suite: Suite, key: [u8; 16], tweak: [u8; 16], block: [u8; 16]) -> Outcome
+    ensures { λ r. ⌜ (r .answer ≡ suiteAnswer (suite .cipher) (suite .steps)) × (r .block ≡ deciphered (suite .cipher) (suite .steps) key tweak block) ⌝ }
+{
+    let mut b = block;
+    let answer = crate::blocks::decipher_blocks(suite, key, &tweak, &mut b);
+    Outcome { answer, block: b }
+}
+
+// Step done + 1 of a block that has had TK(0) and `done` steps: two rounds and the tweakey. The block stays as it was where
+// `done` is 14 or more, since no suite has that step.
+pub fn step(
+    cipher: Cipher,
+    done: usize,
+    key: [u8; 16],
+    tweak: [u8; 16],
+    block: [u8; 16],
+) -> [u8; 16]
+    ensures { λ r. ⌜ r ≡ stepped cipher done key tweak block ⌝ }
+{
+    let mut b = block;
+    if done < 14 {
+        crate::blocks::run_ahead(cipher, done, 1, false, key, &tweak, &mut b);
+    }
+    b
+}
+
+// Step done + 1 undone: the tweakey and two rounds. The block stays as it was where `done` is 14 or more.
+pub fn step_back(
+    cipher: Cipher,
+    done: usize,
+    key: [u8; 16],
+    tweak: [u8; 16],
+    block: [u8; 16],
+) -> [u8; 16]
+    ensures { λ r. ⌜ r ≡ unstepped cipher done key tweak block ⌝ }
+{
+    let mut b = block;
+    if done < 14 {
+        crate::blocks::run_back(cipher, done, 1, false, key, &tweak, &mut b);
+    }
+    b
+}

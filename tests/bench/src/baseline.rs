@@ -1,0 +1,129 @@
+//! A safe wrapper over bench/baseline.c. Each function says whether the suite is listed.
+
+extern "C" {
+    fn baseline_encipher(
+        cipher: u8,
+        steps: u8,
+        key: *const u8,
+        tweak: *const u8,
+        block: *mut u8,
+    ) -> u32;
+
+    fn baseline_decipher(
+        cipher: u8,
+        steps: u8,
+        key: *const u8,
+        tweak: *const u8,
+        block: *mut u8,
+    ) -> u32;
+
+    fn baseline_encipher_blocks(
+        cipher: u8,
+        steps: u8,
+        key: *const u8,
+        tweaks: *const u8,
+        blocks: *mut u8,
+        count: usize,
+    ) -> u32;
+
+    fn baseline_decipher_blocks(
+        cipher: u8,
+        steps: u8,
+        key: *const u8,
+        tweaks: *const u8,
+        blocks: *mut u8,
+        count: usize,
+    ) -> u32;
+}
+
+/// Enciphers the block in place under key and tweak.
+#[inline]
+pub fn encipher(
+    cipher: u8,
+    steps: u8,
+    key: &[u8; 16],
+    tweak: &[u8; 16],
+    block: &mut [u8; 16],
+) -> bool {
+    // SAFETY: the three pointers are to 16 bytes each, and only the block's are written.
+    let number = unsafe {
+        baseline_encipher(
+            cipher,
+            steps,
+            key.as_ptr(),
+            tweak.as_ptr(),
+            block.as_mut_ptr(),
+        )
+    };
+    number == 0
+}
+
+/// Deciphers the block in place under key and tweak.
+#[inline]
+pub fn decipher(
+    cipher: u8,
+    steps: u8,
+    key: &[u8; 16],
+    tweak: &[u8; 16],
+    block: &mut [u8; 16],
+) -> bool {
+    // SAFETY: the three pointers are to 16 bytes each, and only the block's are written.
+    let number = unsafe {
+        baseline_decipher(
+            cipher,
+            steps,
+            key.as_ptr(),
+            tweak.as_ptr(),
+            block.as_mut_ptr(),
+        )
+    };
+    number == 0
+}
+
+/// Enciphers in place every whole block that both slices have, each under its own tweak.
+#[inline]
+pub fn encipher_blocks(
+    cipher: u8,
+    steps: u8,
+    key: &[u8; 16],
+    tweaks: &[u8],
+    blocks: &mut [u8],
+) -> bool {
+    let count = (tweaks.len() / 16).min(blocks.len() / 16);
+    // SAFETY: the key has 16 bytes, both slices have `count` blocks, and only `blocks` is written.
+    let number = unsafe {
+        baseline_encipher_blocks(
+            cipher,
+            steps,
+            key.as_ptr(),
+            tweaks.as_ptr(),
+            blocks.as_mut_ptr(),
+            count,
+        )
+    };
+    number == 0
+}
+
+/// Deciphers in place every whole block that both slices have, each under its own tweak.
+#[inline]
+pub fn decipher_blocks(
+    cipher: u8,
+    steps: u8,
+    key: &[u8; 16],
+    tweaks: &[u8],
+    blocks: &mut [u8],
+) -> bool {
+    let count = (tweaks.len() / 16).min(blocks.len() / 16);
+    // SAFETY: the key has 16 bytes, both slices have `count` blocks, and only `blocks` is written.
+    let number = unsafe {
+        baseline_decipher_blocks(
+            cipher,
+            steps,
+            key.as_ptr(),
+            tweaks.as_ptr(),
+            blocks.as_mut_ptr(),
+            count,
+        )
+    };
+    number == 0
+}

@@ -1,0 +1,15 @@
+//! A second implementation of the tweakable block ciphers Scream and iScream (CAESAR version 1).
+//!
+//! It is written from the paper's tables, on columns and rows as the paper draws them, and is
+//! never fast: it is there to be read, and to hold other implementations against.
+
+pub mod boxes;
+pub mod cipher;
+pub mod random;
+pub mod state;
+pub mod tables;
+pub mod tweakey;
+pub mod vectors;
+
+#[cfg(test)]
+mod printed;
