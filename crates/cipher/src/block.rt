@@ -43,7 +43,7 @@ pub fn step(
 {
     let mut b = block;
     if done < 14 {
-        crate::blocks::run_ahead(cipher, done, 1, false, key, &tweak, &mut b);
+        crate::run::run_ahead(cipher, done, 1, false, key, &tweak, &mut b);
     }
     b
 }
@@ -60,7 +60,7 @@ pub fn step_back(
 {
     let mut b = block;
     if done < 14 {
-        crate::blocks::run_back(cipher, done, 1, false, key, &tweak, &mut b);
+        crate::run::run_back(cipher, done, 1, false, key, &tweak, &mut b);
     }
     b
 }

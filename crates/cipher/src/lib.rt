@@ -3,6 +3,7 @@ pub mod block;
 pub mod blocks;
 pub mod refusal;
 mod rounds;
+mod run;
 mod state;
 pub mod suite;
 mod tweakey;

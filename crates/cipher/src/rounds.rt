@@ -21,7 +21,7 @@ const CONSTANTS: [u8; 29] = *b"\x00\x1B\x36\x51\x6C\x87\xA2\xBD\
     \xB0\xCB\xE6\x01\x1C\x37\x52\x6D\
     \x88\xA3\xBE\xD9\xF4";
 
-pub fn constants() -> [u8; 29]
+pub(crate) fn constants() -> [u8; 29]
     ensures { λ r. ⌜ r ≡ tab 29 constant ⌝ }
 {
     CONSTANTS
@@ -160,7 +160,7 @@ fn two_rounds_back<'a>(
 }
 
 // n steps where s are done.
-pub fn steps<'a>(
+pub(crate) fn steps<'a>(
     k: Cipher,
     s: usize,
     n: usize,
@@ -188,7 +188,7 @@ pub fn steps<'a>(
 }
 
 // n steps, after s others, undone from the last to the first.
-pub fn steps_back<'a>(
+pub(crate) fn steps_back<'a>(
     k: Cipher,
     s: usize,
     n: usize,

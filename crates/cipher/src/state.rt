@@ -7,7 +7,7 @@ ghost use Rattle.cipher.specs.Block.{rows, bytes};
 ghost use Rattle.cipher.specs.State.{rowsOf};
 ghost use Rattle.cipher.specs.Tweakey.{addRows};
 
-pub struct State {
+pub(crate) struct State {
     pub low: u64,
     pub high: u64,
 }
@@ -19,7 +19,7 @@ fn row(x: u64) -> u16
 }
 
 // The eight rows.
-pub fn rows_of(s: State) -> [u16; 8]
+pub(crate) fn rows_of(s: State) -> [u16; 8]
     ensures { λ r. ⌜ r ≡ rowsOf s ⌝ }
 {
     let x = s.low;
@@ -43,7 +43,7 @@ fn four(a: u16, b: u16, c: u16, d: u16) -> u64
 }
 
 // The state of eight rows.
-pub fn state_of(w: [u16; 8]) -> State
+pub(crate) fn state_of(w: [u16; 8]) -> State
     ensures { λ r. ⌜ rowsOf r ≡ w ⌝ }
 {
     State {
@@ -53,7 +53,7 @@ pub fn state_of(w: [u16; 8]) -> State
 }
 
 // Two states added by xor.
-pub fn add(a: State, b: State) -> State
+pub(crate) fn add(a: State, b: State) -> State
     ensures { λ r. ⌜ rowsOf r ≡ addRows (rowsOf a) (rowsOf b) ⌝ }
 {
     State {
@@ -84,7 +84,7 @@ fn words_of(b: [u8; 16]) -> [u16; 8]
 }
 
 // The state of a block.
-pub fn load(b: [u8; 16]) -> State
+pub(crate) fn load(b: [u8; 16]) -> State
     ensures { λ r. ⌜ rowsOf r ≡ rows b ⌝ }
 {
     state_of(words_of(b))
@@ -114,14 +114,14 @@ fn bytes_of(w: [u16; 8]) -> [u8; 16]
 }
 
 // The block of a state.
-pub fn store(s: State) -> [u8; 16]
+pub(crate) fn store(s: State) -> [u8; 16]
     ensures { λ r. ⌜ r ≡ bytes (rowsOf s) ⌝ }
 {
     bytes_of(rows_of(s))
 }
 
 // The block that stands at a place of a slice.
-pub fn block_at(s: &[u8], at: usize) -> [u8; 16]
+pub(crate) fn block_at(s: &[u8], at: usize) -> [u8; 16]
     requires { ⌜ at + 16 ≤ length (now s) ⌝ }
     ensures { λ r. ⌜ r ≡ take 16 (drop at (now (s .entry))) ⌝ }
 {
@@ -135,7 +135,7 @@ pub fn block_at(s: &[u8], at: usize) -> [u8; 16]
 }
 
 // A block put at a place of a slice.
-pub fn put_at(d: &mut [u8], at: usize, b: [u8; 16])
+pub(crate) fn put_at(d: &mut [u8], at: usize, b: [u8; 16])
     requires { ⌜ at + 16 ≤ length (now d) ⌝ }
     ensures { λ r. ⌜ now (d .exit) ≡ paste (now (d .entry)) at b 16 ⌝ }
 {

@@ -9,7 +9,7 @@ ghost use Rattle.cipher.specs.State.{rowsOf};
 ghost use Rattle.cipher.specs.Tweakey.{φ, rotated, rotatedRow};
 
 // The tweakeys of the steps σ, by σ mod 3 or σ mod 2.
-pub struct Schedule {
+pub(crate) struct Schedule {
     pub first: State,
     pub second: State,
     pub third: State,
@@ -52,7 +52,7 @@ fn rotate_state(t: State) -> State
 }
 
 // The schedule of a key and a tweak.
-pub fn schedule_of(k: Cipher, key: State, tweak: State) -> Schedule
+pub(crate) fn schedule_of(k: Cipher, key: State, tweak: State) -> Schedule
     ensures { λ r. ⌜ ((σ : ℕ) → tweakeysIn k r σ ≡ parts k .tweakey (rowsOf key) (rowsOf tweak) σ) ⌝ }
 {
     let first = crate::state::add(key, tweak);
@@ -86,7 +86,7 @@ fn pick(h: Schedule, n: usize) -> State
 }
 
 // What is added after step s.
-pub fn tweakey(k: Cipher, h: Schedule, s: usize) -> State
+pub(crate) fn tweakey(k: Cipher, h: Schedule, s: usize) -> State
     ensures { λ r. ⌜ r ≡ stateAt k h s ⌝ }
 {
     match k {

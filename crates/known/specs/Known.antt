@@ -1,0 +1,49 @@
+-- The known values that the prover checks: one list, each with what the definitions give beside what the paper says.
+use mathlib.Core.Path.{_≡_}
+use mathlib.Core.List.{List, [], _∷_}
+use Prim.Native.Nat.{ℕ}
+use lib.ListN.{getD}
+use Rattle.boxes.specs.Sbox
+use Rattle.boxes.specs.Lbox
+use Rattle.cipher.specs.Tweakey.{φ, rotatedRow}
+
+pub record Value : Type 0 where
+  pub given : List ℕ
+  pub said : List ℕ
+
+-- a number that is known
+abbrev is : ℕ → ℕ → Value
+is a b = record { given = a ∷ []; said = b ∷ [] }
+
+-- a state that is known
+abbrev are : List ℕ → List ℕ → Value
+are a b = record { given = a; said = b }
+
+-- two halves of eight bytes, each with a number below 65536, as rows
+abbrev halves : ℕ → ℕ → List ℕ
+halves a b = a ∷ 0 ∷ 0 ∷ 0 ∷ b ∷ 0 ∷ 0 ∷ 0 ∷ []
+
+unfoldable pub known : List Value
+known =
+    -- 1: "Scream S: 00→1E, 1E→00"
+    is (getD Sbox.scream 0x00 0) 0x1E ∷
+    is (getD Sbox.scream 0x1E 0) 0x00 ∷
+    -- 2: "iScream S: 01→85, 02→65, 85→01"
+    is (getD Sbox.iscream 0x01 0) 0x85 ∷
+    is (getD Sbox.iscream 0x02 0) 0x65 ∷
+    is (getD Sbox.iscream 0x85 0) 0x01 ∷
+    -- 3: "iScream L: 0001→FFFE, 0002→CCC1"
+    is (Lbox.times Lbox.iscream 0x0001) 0xFFFE ∷
+    is (Lbox.times Lbox.iscream 0x0002) 0xCCC1 ∷
+    -- 4: "φ: (1, 2), (3, 1), (2, 3), (1, 2)"
+    are (φ (halves 1 2)) (halves 3 1) ∷
+    are (φ (halves 3 1)) (halves 2 3) ∷
+    are (φ (halves 2 3)) (halves 1 2) ∷
+    -- 5: "Row 8001 rotated is 0003"
+    is (rotatedRow 0x8001) 0x0003 ∷
+    []
+
+-- what is given is what is said, for each value of a list
+abbrev pub Holds : List Value → Type 0
+Holds [] = Unit {0}
+Holds (v ∷ l) = (v .given ≡ v .said) × Holds l

@@ -1,0 +1,80 @@
+// The functions for C, as include/sealed_book.h declares them.
+use cipher::refusal::Answer;
+use cipher::suite::Suite;
+ghost use mathlib.Core.Path.{_≡_};
+ghost use Rattle.cipher.specs.Blocks.{encipheredBlocks, decipheredBlocks};
+ghost use Rattle.cipher.specs.Cipher.{enciphered, deciphered};
+ghost use Rattle.cipher.specs.Suite.{suiteAnswer};
+ghost use Rattle.sealed_book.specs.Code.{codeOf};
+
+// 0 for a call that was done, else the refusal's number.
+fn code(answer: Answer) -> u32
+    ensures { λ r. ⌜ r ≡ codeOf answer ⌝ }
+{
+    match answer {
+        Answer::Done => 0,
+        Answer::Refused(why) => why.number(),
+    }
+}
+
+#[no_mangle]
+pub extern "C" fn sb_encipher(
+    cipher: u8,
+    steps: u8,
+    key: &[u8; 16],
+    tweak: &[u8; 16],
+    block: &mut [u8; 16],
+) -> u32
+    ensures { λ r. ⌜ (r ≡ codeOf (suiteAnswer cipher steps)) × (now (block .exit) ≡ enciphered cipher steps (now (key .entry)) (now (tweak .entry)) (now (block .entry))) ⌝ }
+{
+    let done = cipher::block::encipher(Suite { cipher, steps }, *key, *tweak, *block);
+    let b = done.block;
+    *block = b;
+    let answer = done.answer;
+    code(answer)
+}
+
+#[no_mangle]
+pub extern "C" fn sb_decipher(
+    cipher: u8,
+    steps: u8,
+    key: &[u8; 16],
+    tweak: &[u8; 16],
+    block: &mut [u8; 16],
+) -> u32
+    ensures { λ r. ⌜ (r ≡ codeOf (suiteAnswer cipher steps)) × (now (block .exit) ≡ deciphered cipher steps (now (key .entry)) (now (tweak .entry)) (now (block .entry))) ⌝ }
+{
+    let done = cipher::block::decipher(Suite { cipher, steps }, *key, *tweak, *block);
+    let b = done.block;
+    *block = b;
+    let answer = done.answer;
+    code(answer)
+}
+
+#[no_mangle]
+pub extern "C" fn sb_encipher_blocks(
+    cipher: u8,
+    steps: u8,
+    key: &[u8; 16],
+    tweaks: &[u8],
+    blocks: &mut [u8],
+) -> u32
+    ensures { λ r. ⌜ (r ≡ codeOf (suiteAnswer cipher steps)) × (now (blocks .exit) ≡ encipheredBlocks cipher steps (now (key .entry)) (now (tweaks .entry)) (now (blocks .entry))) ⌝ }
+{
+    let answer = cipher::blocks::encipher_blocks(Suite { cipher, steps }, *key, tweaks, blocks);
+    code(answer)
+}
+
+#[no_mangle]
+pub extern "C" fn sb_decipher_blocks(
+    cipher: u8,
+    steps: u8,
+    key: &[u8; 16],
+    tweaks: &[u8],
+    blocks: &mut [u8],
+) -> u32
+    ensures { λ r. ⌜ (r ≡ codeOf (suiteAnswer cipher steps)) × (now (blocks .exit) ≡ decipheredBlocks cipher steps (now (key .entry)) (now (tweaks .entry)) (now (blocks .entry))) ⌝ }
+{
+    let answer = cipher::blocks::decipher_blocks(Suite { cipher, steps }, *key, tweaks, blocks);
+    code(answer)
+}
