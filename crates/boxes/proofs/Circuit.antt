@@ -88,7 +88,9 @@ module _ (j : ℕ) (hj : j < 16) where
 
 -- the column that the circuit makes of the column c
 abbrev outcome : List Instruction → ℕ → ℕ
-outcome p c = gather 8 (λ i. getD (run 1 p (start (bit c))) i 0)
+outcome p c =
+    let r : List ℕ = run 1 p (start (bit c)) in
+    gather 8 (λ i. getD r i 0)
 
 -- the circuit gives the table's entry at each of the 256 columns
 abbrev pub right : List Instruction → List ℕ → Bool
