@@ -14,7 +14,7 @@ use Rattle.bits.specs.Table.{tab}
 use Rattle.bits.proofs.Bits.{bit-lt, bit-gather, gather-lt, gather-ext, gather-bit}
 use Rattle.bits.proofs.Lists.{getD-tab, getD-tab-out, length-tab, tab-ext, tab-getD}
 use Rattle.bits.proofs.Tests.{all, all-at, and-left, and-right}
-use Rattle.boxes.specs.Rows.{Rows}
+use Rattle.state.specs.Rows.{Rows}
 use Rattle.boxes.specs.Sbox
 use Rattle.boxes.specs.Lbox
 use Rattle.boxes.proofs.Circuit.{column-bit, column-lt}

@@ -1,4 +1,3 @@
-pub mod Rows
 pub mod Sbox
 pub mod Lbox
 pub mod Tables

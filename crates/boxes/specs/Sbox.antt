@@ -13,7 +13,7 @@ column w j = gather 8 (λ i. bit (getD w i 0) j)
 unfoldable pub layer : List ℕ → List ℕ → List ℕ
 layer t w = tab 8 (λ i. gather 16 (λ j. bit (getD t (column w j) 0) i))
 
--- Table 6: Scream's S-box
+-- Table 6: Scream's S-box; at 55 and C6 the text has `DO` and `OD` for D0 and 0D
 unfoldable pub scream : List ℕ
 scream =
     0x1E ∷ 0x75 ∷ 0x5F ∷ 0xE1 ∷ 0x99 ∷ 0xFC ∷ 0x89 ∷ 0x2F ∷ 0x86 ∷ 0xEE ∷ 0xF1 ∷ 0x7B ∷ 0x23 ∷ 0x52 ∷ 0x10 ∷ 0x94 ∷

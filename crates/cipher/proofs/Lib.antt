@@ -1,7 +1,1 @@
-pub mod Words
-pub mod Tweakeys
-pub mod Undo
-pub mod Inverse
-pub mod Turns
-pub mod Each
-pub mod Runs
+pub mod Entries

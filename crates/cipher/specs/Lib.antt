@@ -1,9 +1,3 @@
 pub mod Refusal
 pub mod Suite
-pub mod Block
-pub mod Tweakey
-pub mod Cipher
-pub mod Blocks
-pub mod State
-pub mod Schedule
-pub mod Run
+pub mod Entry

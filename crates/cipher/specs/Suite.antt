@@ -5,10 +5,10 @@ use lib.Dec.{eqb}
 use Rattle.cipher.specs.declared.refusal.Answer.{Answer}
 use Rattle.cipher.specs.declared.refusal.Answer.the-variants.{Done, Refused}
 use Rattle.cipher.specs.declared.refusal.Refusal.the-variants.{SuiteNotListed}
-use Rattle.cipher.specs.declared.suite.Cipher.{Cipher}
-use Rattle.cipher.specs.declared.suite.Cipher.the-variants.{Scream, IScream}
+use Rattle.rounds.specs.declared.Cipher.{Cipher}
+use Rattle.rounds.specs.declared.Cipher.the-variants.{Scream, IScream}
 use Rattle.cipher.specs.declared.suite.Made.{Made}
-use Rattle.cipher.specs.declared.suite.Made.the-variants.{Listed, NotListed}
+use Rattle.cipher.specs.declared.suite.Made.the-variants.{Listed, Refused as MakerRefused}
 
 -- "A suite is two bytes: cipher (1 Scream, 2 iScream) and steps. Each cipher has exactly four step counts:
 -- 6, 8, 10, 12 for Scream, 8, 10, 12, 14 for iScream."
@@ -23,7 +23,7 @@ cipherOf cipher = cond (eqb cipher 1) Scream IScream
 
 -- what a checked maker makes
 abbrev pub made : ℕ → ℕ → Made
-made cipher steps = cond (listed cipher steps) (Listed (record { cipher = cipher; steps = steps })) NotListed
+made cipher steps = cond (listed cipher steps) (Listed (record { cipher = cipher; steps = steps })) (MakerRefused SuiteNotListed)
 
 -- "suite not listed: 1"
 abbrev pub suiteAnswer : ℕ → ℕ → Answer

@@ -1,9 +1,10 @@
 // One block: enciphered, deciphered, and a step of each.
 use crate::refusal::Answer;
-use crate::suite::Cipher;
 use crate::suite::Suite;
+use rounds::Cipher;
 ghost use mathlib.Core.Path.{_≡_};
-ghost use Rattle.cipher.specs.Cipher.{enciphered, deciphered, stepped, unstepped};
+ghost use Rattle.cipher.specs.Entry.{enciphered, deciphered};
+ghost use Rattle.rounds.specs.Cipher.{stepped, unstepped};
 ghost use Rattle.cipher.specs.Suite.{suiteAnswer};
 
 // A block with the answer; with a refusal it is the block that was given.
@@ -43,7 +44,7 @@ pub fn step(
 {
     let mut b = block;
     if done < 14 {
-        crate::run::run_ahead(cipher, done, 1, false, key, &tweak, &mut b);
+        rounds::run::run_ahead(cipher, done, 1, false, key, &tweak, &mut b);
     }
     b
 }
@@ -60,7 +61,7 @@ pub fn step_back(
 {
     let mut b = block;
     if done < 14 {
-        crate::run::run_back(cipher, done, 1, false, key, &tweak, &mut b);
+        rounds::run::run_back(cipher, done, 1, false, key, &tweak, &mut b);
     }
     b
 }

@@ -3,7 +3,7 @@ use crate::refusal::Answer;
 use crate::refusal::Refusal;
 use crate::suite::Suite;
 ghost use mathlib.Core.Path.{_≡_};
-ghost use Rattle.cipher.specs.Blocks.{encipheredBlocks, decipheredBlocks};
+ghost use Rattle.cipher.specs.Entry.{encipheredBlocks, decipheredBlocks};
 ghost use Rattle.cipher.specs.Suite.{suiteAnswer};
 
 // Enciphers every whole block that both slices have, each in place under its own tweak. All other bytes stay, and a suite
@@ -15,7 +15,7 @@ pub fn encipher_blocks(suite: Suite, key: [u8; 16], tweaks: &[u8], blocks: &mut 
         return Answer::Refused(Refusal::SuiteNotListed);
     }
     let n = suite.steps as usize;
-    crate::run::run_ahead(suite.cipher_of(), 0, n, true, key, tweaks, blocks);
+    rounds::run::run_ahead(suite.cipher_of(), 0, n, true, key, tweaks, blocks);
     Answer::Done
 }
 
@@ -28,6 +28,6 @@ pub fn decipher_blocks(suite: Suite, key: [u8; 16], tweaks: &[u8], blocks: &mut 
         return Answer::Refused(Refusal::SuiteNotListed);
     }
     let n = suite.steps as usize;
-    crate::run::run_back(suite.cipher_of(), 0, n, true, key, tweaks, blocks);
+    rounds::run::run_back(suite.cipher_of(), 0, n, true, key, tweaks, blocks);
     Answer::Done
 }

@@ -2,8 +2,4 @@
 pub mod block;
 pub mod blocks;
 pub mod refusal;
-mod rounds;
-mod run;
-mod state;
 pub mod suite;
-mod tweakey;

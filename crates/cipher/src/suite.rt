@@ -1,11 +1,8 @@
 // Suites: a cipher and a step count.
+use crate::refusal::Refusal;
+use rounds::Cipher;
 ghost use mathlib.Core.Path.{_≡_};
 ghost use Rattle.cipher.specs.Suite.{listed, cipherOf, made};
-
-pub enum Cipher {
-    Scream,
-    IScream,
-}
 
 // Any two bytes; `make` makes listed ones only.
 pub struct Suite {
@@ -15,7 +12,7 @@ pub struct Suite {
 
 pub enum Made {
     Listed(Suite),
-    NotListed,
+    Refused(Refusal),
 }
 
 impl Suite {
@@ -35,7 +32,7 @@ impl Suite {
         if s.is_listed() {
             return Made::Listed(s);
         }
-        Made::NotListed
+        Made::Refused(Refusal::SuiteNotListed)
     }
 
     // Whether the suite is one of the eight that there are.
@@ -50,8 +47,8 @@ impl Suite {
             | ((c == Suite::ISCREAM) & ((n == b[0]) | (n == b[1]) | (n == b[2]) | (n == b[3])))
     }
 
-    // The cipher of a listed suite.
-    pub fn cipher_of(self) -> Cipher
+    // The cipher of a listed suite; asked only where the suite is listed.
+    pub(crate) fn cipher_of(self) -> Cipher
         ensures { λ r. ⌜ r ≡ cipherOf (self .cipher) ⌝ }
     {
         let c = self.cipher;

@@ -2,7 +2,7 @@
 use mathlib.Core.Path.{refl}
 use Rattle.boxes.specs.Sbox
 use Rattle.boxes.specs.Lbox
-use Rattle.cipher.specs.Tweakey.{φ}
+use Rattle.rounds.specs.Tweakey.{φ}
 use Rattle.known.specs.Known.{known, Holds}
 
 pub known-hold : Holds known

@@ -1,23 +1,24 @@
--- The known values that the prover checks: one list, each with what the definitions give beside what the paper says.
+-- The known values that the prover checks: one list, each as the definitions compute it beside
+-- what the scope states.
 use mathlib.Core.Path.{_≡_}
 use mathlib.Core.List.{List, [], _∷_}
 use Prim.Native.Nat.{ℕ}
 use lib.ListN.{getD}
 use Rattle.boxes.specs.Sbox
 use Rattle.boxes.specs.Lbox
-use Rattle.cipher.specs.Tweakey.{φ, rotatedRow}
+use Rattle.rounds.specs.Tweakey.{φ, rotatedRow}
 
 pub record Value : Type 0 where
-  pub given : List ℕ
-  pub said : List ℕ
+  pub computed : List ℕ
+  pub stated : List ℕ
 
 -- a number that is known
 abbrev is : ℕ → ℕ → Value
-is a b = record { given = a ∷ []; said = b ∷ [] }
+is a b = record { computed = a ∷ []; stated = b ∷ [] }
 
 -- a state that is known
 abbrev are : List ℕ → List ℕ → Value
-are a b = record { given = a; said = b }
+are a b = record { computed = a; stated = b }
 
 -- two halves of eight bytes, each with a number below 65536, as rows
 abbrev halves : ℕ → ℕ → List ℕ
@@ -43,7 +44,7 @@ known =
     is (rotatedRow 0x8001) 0x0003 ∷
     []
 
--- what is given is what is said, for each value of a list
+-- each value of a list is computed as it is stated
 abbrev pub Holds : List Value → Type 0
 Holds [] = Unit {0}
-Holds (v ∷ l) = (v .given ≡ v .said) × Holds l
+Holds (v ∷ l) = (v .computed ≡ v .stated) × Holds l

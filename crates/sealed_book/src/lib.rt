@@ -2,14 +2,13 @@
 use cipher::refusal::Answer;
 use cipher::suite::Suite;
 ghost use mathlib.Core.Path.{_≡_};
-ghost use Rattle.cipher.specs.Blocks.{encipheredBlocks, decipheredBlocks};
-ghost use Rattle.cipher.specs.Cipher.{enciphered, deciphered};
+ghost use Rattle.cipher.specs.Entry.{enciphered, deciphered, encipheredBlocks, decipheredBlocks};
 ghost use Rattle.cipher.specs.Suite.{suiteAnswer};
-ghost use Rattle.sealed_book.specs.Code.{codeOf};
+ghost use Rattle.sealed_book.specs.Returned.{returned};
 
 // 0 for a call that was done, else the refusal's number.
 fn code(answer: Answer) -> u32
-    ensures { λ r. ⌜ r ≡ codeOf answer ⌝ }
+    ensures { λ r. ⌜ r ≡ returned answer ⌝ }
 {
     match answer {
         Answer::Done => 0,
@@ -25,7 +24,7 @@ pub extern "C" fn sb_encipher(
     tweak: &[u8; 16],
     block: &mut [u8; 16],
 ) -> u32
-    ensures { λ r. ⌜ (r ≡ codeOf (suiteAnswer cipher steps)) × (now (block .exit) ≡ enciphered cipher steps (now (key .entry)) (now (tweak .entry)) (now (block .entry))) ⌝ }
+    ensures { λ r. ⌜ (r ≡ returned (suiteAnswer cipher steps)) × (now (block .exit) ≡ enciphered cipher steps (now (key .entry)) (now (tweak .entry)) (now (block .entry))) ⌝ }
 {
     let done = cipher::block::encipher(Suite { cipher, steps }, *key, *tweak, *block);
     let b = done.block;
@@ -42,7 +41,7 @@ pub extern "C" fn sb_decipher(
     tweak: &[u8; 16],
     block: &mut [u8; 16],
 ) -> u32
-    ensures { λ r. ⌜ (r ≡ codeOf (suiteAnswer cipher steps)) × (now (block .exit) ≡ deciphered cipher steps (now (key .entry)) (now (tweak .entry)) (now (block .entry))) ⌝ }
+    ensures { λ r. ⌜ (r ≡ returned (suiteAnswer cipher steps)) × (now (block .exit) ≡ deciphered cipher steps (now (key .entry)) (now (tweak .entry)) (now (block .entry))) ⌝ }
 {
     let done = cipher::block::decipher(Suite { cipher, steps }, *key, *tweak, *block);
     let b = done.block;
@@ -59,7 +58,7 @@ pub extern "C" fn sb_encipher_blocks(
     tweaks: &[u8],
     blocks: &mut [u8],
 ) -> u32
-    ensures { λ r. ⌜ (r ≡ codeOf (suiteAnswer cipher steps)) × (now (blocks .exit) ≡ encipheredBlocks cipher steps (now (key .entry)) (now (tweaks .entry)) (now (blocks .entry))) ⌝ }
+    ensures { λ r. ⌜ (r ≡ returned (suiteAnswer cipher steps)) × (now (blocks .exit) ≡ encipheredBlocks cipher steps (now (key .entry)) (now (tweaks .entry)) (now (blocks .entry))) ⌝ }
 {
     let answer = cipher::blocks::encipher_blocks(Suite { cipher, steps }, *key, tweaks, blocks);
     code(answer)
@@ -73,7 +72,7 @@ pub extern "C" fn sb_decipher_blocks(
     tweaks: &[u8],
     blocks: &mut [u8],
 ) -> u32
-    ensures { λ r. ⌜ (r ≡ codeOf (suiteAnswer cipher steps)) × (now (blocks .exit) ≡ decipheredBlocks cipher steps (now (key .entry)) (now (tweaks .entry)) (now (blocks .entry))) ⌝ }
+    ensures { λ r. ⌜ (r ≡ returned (suiteAnswer cipher steps)) × (now (blocks .exit) ≡ decipheredBlocks cipher steps (now (key .entry)) (now (tweaks .entry)) (now (blocks .entry))) ⌝ }
 {
     let answer = cipher::blocks::decipher_blocks(Suite { cipher, steps }, *key, tweaks, blocks);
     code(answer)

@@ -75,7 +75,7 @@ const T22: [u8; 256] = *b"\x00\x69\x55\x3C\x33\x5A\x66\x0F\x0F\x66\x5A\x33\x3C\x
     \x69\x00\x3C\x55\x5A\x33\x0F\x66\x66\x0F\x33\x5A\x55\x3C\x00\x69\
     \x00\x69\x55\x3C\x33\x5A\x66\x0F\x0F\x66\x5A\x33\x3C\x55\x69\x00";
 
-// Its matrix: B.2.1, row 0 with the 1 that the paper leaves out.
+// Its matrix: B.2.1, where row 0 is printed an entry short.
 const MATRIX: [[u8; 16]; 16] = [
     [0, 1, 1, 1, 1, 1, 1, 1, 1, 1, 1, 1, 1, 1, 1, 1],
     [1, 0, 0, 0, 0, 0, 1, 1, 0, 0, 1, 1, 0, 0, 1, 1],

@@ -75,7 +75,7 @@ const T22: [u8; 256] = *b"\x00\x54\xBE\xEA\xD8\x8C\x66\x32\xA5\xF1\x1B\x4F\x7D\x
     \xEB\xBF\x55\x01\x33\x67\x8D\xD9\x4E\x1A\xF0\xA4\x96\xC2\x28\x7C\
     \x54\x00\xEA\xBE\x8C\xD8\x32\x66\xF1\xA5\x4F\x1B\x29\x7D\x97\xC3";
 
-// Its matrix, the transpose of the L-box's: A.3.1 by rows.
+// Its matrix, the transpose of the L-box's: A.3.1 by rows, the last one as the tables have it.
 const MATRIX: [[u8; 16]; 16] = [
     [0, 0, 1, 1, 1, 0, 1, 0, 0, 0, 0, 1, 1, 1, 0, 0],
     [1, 0, 0, 1, 0, 1, 0, 1, 0, 1, 0, 0, 1, 0, 1, 0],

@@ -2,7 +2,7 @@
 use mathlib.Core.Path.{_∙_}
 use native.Mathlib.Omega.{arith}
 use borrow.Author.Needs.{needs}
-use Rattle.cipher.proofs.Runs.{deciphered-one}
+use Rattle.cipher.proofs.Entries.{deciphered-one}
 use Rattle.cipher.proofs.block.decipher.Statement.{statement}
 use Rattle.cipher.proofs.block.decipher.Tie as tie
 

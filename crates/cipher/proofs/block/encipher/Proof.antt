@@ -2,7 +2,7 @@
 use mathlib.Core.Path.{_∙_}
 use native.Mathlib.Omega.{arith}
 use borrow.Author.Needs.{needs}
-use Rattle.cipher.proofs.Runs.{enciphered-one}
+use Rattle.cipher.proofs.Entries.{enciphered-one}
 use Rattle.cipher.proofs.block.encipher.Statement.{statement}
 use Rattle.cipher.proofs.block.encipher.Tie as tie
 

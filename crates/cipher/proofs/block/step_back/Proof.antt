@@ -2,7 +2,7 @@
 use mathlib.Core.Path.{_∙_}
 use native.Mathlib.Omega.{arith}
 use borrow.Author.Needs.{needs}
-use Rattle.cipher.proofs.Runs.{unstepped-one, unstepped-none}
+use Rattle.rounds.proofs.Runs.{unstepped-one, unstepped-none}
 use Rattle.cipher.proofs.block.step_back.Statement.{statement}
 use Rattle.cipher.proofs.block.step_back.Tie as tie
 

@@ -4,10 +4,10 @@ use mathlib.Core.Bool.{true, false}
 use native.Mathlib.Omega.{arith}
 use borrow.Author.Tests.{not-true, not-false}
 use borrow.Author.Needs.{needs}
-use Rattle.cipher.specs.Blocks.{eachBlock}
-use Rattle.cipher.specs.Run.{backBlock}
+use Rattle.rounds.specs.Blocks.{eachBlock}
+use Rattle.rounds.specs.Run.{backBlock}
 use Rattle.cipher.specs.Suite.{listed}
-use Rattle.cipher.proofs.Runs.{listed-steps, listed-answer, unlisted-answer, decipher-listed, decipher-unlisted}
+use Rattle.cipher.proofs.Entries.{listed-steps, listed-answer, unlisted-answer, decipher-listed, decipher-unlisted}
 use Rattle.cipher.proofs.blocks.decipher_blocks.Statement.{statement}
 use Rattle.cipher.proofs.blocks.decipher_blocks.Tie as tie
 

@@ -1,0 +1,6 @@
+pub mod Tweakeys
+pub mod Undo
+pub mod Inverse
+pub mod Turns
+pub mod Each
+pub mod Runs

@@ -1,0 +1,278 @@
+// Runs of steps: what enciphering, deciphering and a single step have in common.
+use crate::Cipher;
+use state::State;
+ghost use mathlib.Core.Bool.{cond};
+ghost use mathlib.Core.Path.{_≡_};
+ghost use Prim.Native.Nat.{_+_, _/_, _≤_, min};
+ghost use lib.ListN.{length, take, drop};
+ghost use lib.Seq.{paste};
+ghost use Rattle.rounds.specs.Blocks.{eachBlock};
+ghost use Rattle.rounds.specs.Cipher.{parts};
+ghost use Rattle.rounds.specs.Run.{Tables, aheadBlock, backBlock};
+ghost use Rattle.state.specs.Rows.{addRows};
+ghost use Rattle.state.specs.State.{rowsOf};
+
+// How many whole blocks two slices of these lengths have both.
+fn whole(a: usize, b: usize) -> usize
+    ensures { λ r. ⌜ r ≡ min a b / 16 ⌝ }
+{
+    if a < b { a / 16 } else { b / 16 }
+}
+
+// With the tweakey added, or as it is.
+fn added(wanted: bool, x: State, t: State) -> State
+    ensures { λ r. ⌜ rowsOf r ≡ cond wanted (addRows (rowsOf x) (rowsOf t)) (rowsOf x) ⌝ }
+{
+    if wanted {
+        return state::add(x, t);
+    }
+    x
+}
+
+// The block that stands at a place of a slice.
+fn block_at(s: &[u8], at: usize) -> [u8; 16]
+    requires { ⌜ at + 16 ≤ length (now s) ⌝ }
+    ensures { λ r. ⌜ r ≡ take 16 (drop at (now (s .entry))) ⌝ }
+{
+    let mut b = [0u8; 16];
+    let mut i: usize = 0;
+    while i < 16 {
+        b[i] = s[at + i];
+        i += 1;
+    }
+    b
+}
+
+// A block put at a place of a slice.
+fn put_at(d: &mut [u8], at: usize, b: [u8; 16])
+    requires { ⌜ at + 16 ≤ length (now d) ⌝ }
+    ensures { λ r. ⌜ now (d .exit) ≡ paste (now (d .entry)) at b 16 ⌝ }
+{
+    let mut i: usize = 0;
+    while i < 16 {
+        d[at + i] = b[i];
+        i += 1;
+    }
+}
+
+// A block goes n steps ahead where s are done.
+fn block_ahead<'a>(
+    k: Cipher,
+    s: usize,
+    n: usize,
+    first: bool,
+    key: [u8; 16],
+    tweak: [u8; 16],
+    block: [u8; 16],
+    low: &'a [u16; 256],
+    high: &'a [u16; 256],
+    c: &'a [u8; 29],
+) -> [u8; 16]
+    requires { ⌜ (s + n ≤ 14) × Tables (parts k .lbox) (now low) (now high) (now c) ⌝ }
+    ensures { λ r. ⌜ r ≡ aheadBlock k s n first key tweak block ⌝ }
+{
+    let h = crate::tweakey::schedule_of(k, state::load(key), state::load(tweak));
+    let x = added(first, state::load(block), crate::tweakey::tweakey(k, h, 0));
+    let y = crate::steps::steps(k, s, n, h, x, low, high, c);
+    state::store(y)
+}
+
+// The same of the block at a place, under the tweak at that place.
+fn one_ahead<'a>(
+    k: Cipher,
+    s: usize,
+    n: usize,
+    first: bool,
+    key: [u8; 16],
+    tweaks: &[u8],
+    blocks: &mut [u8],
+    at: usize,
+    low: &'a [u16; 256],
+    high: &'a [u16; 256],
+    c: &'a [u8; 29],
+)
+    requires { ⌜ (s + n ≤ 14) × Tables (parts k .lbox) (now low) (now high) (now c) × (at + 16 ≤ length (now tweaks)) × (at + 16 ≤ length (now blocks)) ⌝ }
+    ensures { λ r. ⌜ now (blocks .exit) ≡ paste (now (blocks .entry)) at (aheadBlock k s n first key (take 16 (drop at (now (tweaks .entry)))) (take 16 (drop at (now (blocks .entry))))) 16 ⌝ }
+{
+    let tweak = block_at(tweaks, at);
+    let block = block_at(blocks, at);
+    let b = block_ahead(k, s, n, first, key, tweak, block, low, high, c);
+    put_at(blocks, at, b);
+}
+
+// The same of every whole block.
+fn all_ahead<'a>(
+    k: Cipher,
+    s: usize,
+    n: usize,
+    first: bool,
+    key: [u8; 16],
+    tweaks: &[u8],
+    blocks: &mut [u8],
+    low: &'a [u16; 256],
+    high: &'a [u16; 256],
+    c: &'a [u8; 29],
+)
+    requires { ⌜ (s + n ≤ 14) × Tables (parts k .lbox) (now low) (now high) (now c) ⌝ }
+    ensures { λ r. ⌜ now (blocks .exit) ≡ eachBlock (aheadBlock k s n first key) (now (tweaks .entry)) (now (blocks .entry)) ⌝ }
+{
+    let m = whole(tweaks.len(), blocks.len());
+    let mut i: usize = 0;
+    while i < m {
+        one_ahead(k, s, n, first, key, tweaks, blocks, 16 * i, low, high, c);
+        i += 1;
+    }
+}
+
+// Every whole block that both slices have goes n steps ahead where s are done; TK(0) is added first if asked for.
+// For our own crates, which run no more steps than a suite has.
+pub fn run_ahead(
+    k: Cipher,
+    s: usize,
+    n: usize,
+    first: bool,
+    key: [u8; 16],
+    tweaks: &[u8],
+    blocks: &mut [u8],
+)
+    requires { ⌜ s + n ≤ 14 ⌝ }
+    ensures { λ r. ⌜ now (blocks .exit) ≡ eachBlock (aheadBlock k s n first key) (now (tweaks .entry)) (now (blocks .entry)) ⌝ }
+{
+    match k {
+        Cipher::Scream => all_ahead(
+            k,
+            s,
+            n,
+            first,
+            key,
+            tweaks,
+            blocks,
+            &boxes::lbox::scream::low(),
+            &boxes::lbox::scream::high(),
+            &crate::steps::constants(),
+        ),
+        Cipher::IScream => all_ahead(
+            k,
+            s,
+            n,
+            first,
+            key,
+            tweaks,
+            blocks,
+            &boxes::lbox::iscream::low(),
+            &boxes::lbox::iscream::high(),
+            &crate::steps::constants(),
+        ),
+    }
+}
+
+// The n steps of a block after s others are undone.
+fn block_back<'a>(
+    k: Cipher,
+    s: usize,
+    n: usize,
+    last: bool,
+    key: [u8; 16],
+    tweak: [u8; 16],
+    block: [u8; 16],
+    low: &'a [u16; 256],
+    high: &'a [u16; 256],
+    c: &'a [u8; 29],
+) -> [u8; 16]
+    requires { ⌜ (s + n ≤ 14) × Tables (parts k .lboxInverse) (now low) (now high) (now c) ⌝ }
+    ensures { λ r. ⌜ r ≡ backBlock k s n last key tweak block ⌝ }
+{
+    let h = crate::tweakey::schedule_of(k, state::load(key), state::load(tweak));
+    let x = crate::steps::steps_back(k, s, n, h, state::load(block), low, high, c);
+    let y = added(last, x, crate::tweakey::tweakey(k, h, 0));
+    state::store(y)
+}
+
+// The same of the block at a place, under the tweak at that place.
+fn one_back<'a>(
+    k: Cipher,
+    s: usize,
+    n: usize,
+    last: bool,
+    key: [u8; 16],
+    tweaks: &[u8],
+    blocks: &mut [u8],
+    at: usize,
+    low: &'a [u16; 256],
+    high: &'a [u16; 256],
+    c: &'a [u8; 29],
+)
+    requires { ⌜ (s + n ≤ 14) × Tables (parts k .lboxInverse) (now low) (now high) (now c) × (at + 16 ≤ length (now tweaks)) × (at + 16 ≤ length (now blocks)) ⌝ }
+    ensures { λ r. ⌜ now (blocks .exit) ≡ paste (now (blocks .entry)) at (backBlock k s n last key (take 16 (drop at (now (tweaks .entry)))) (take 16 (drop at (now (blocks .entry))))) 16 ⌝ }
+{
+    let tweak = block_at(tweaks, at);
+    let block = block_at(blocks, at);
+    let b = block_back(k, s, n, last, key, tweak, block, low, high, c);
+    put_at(blocks, at, b);
+}
+
+// The same of every whole block.
+fn all_back<'a>(
+    k: Cipher,
+    s: usize,
+    n: usize,
+    last: bool,
+    key: [u8; 16],
+    tweaks: &[u8],
+    blocks: &mut [u8],
+    low: &'a [u16; 256],
+    high: &'a [u16; 256],
+    c: &'a [u8; 29],
+)
+    requires { ⌜ (s + n ≤ 14) × Tables (parts k .lboxInverse) (now low) (now high) (now c) ⌝ }
+    ensures { λ r. ⌜ now (blocks .exit) ≡ eachBlock (backBlock k s n last key) (now (tweaks .entry)) (now (blocks .entry)) ⌝ }
+{
+    let m = whole(tweaks.len(), blocks.len());
+    let mut i: usize = 0;
+    while i < m {
+        one_back(k, s, n, last, key, tweaks, blocks, 16 * i, low, high, c);
+        i += 1;
+    }
+}
+
+// Of every whole block that both slices have the n steps after s others are undone; TK(0) is added last if asked for.
+// For our own crates, which run no more steps than a suite has.
+pub fn run_back(
+    k: Cipher,
+    s: usize,
+    n: usize,
+    last: bool,
+    key: [u8; 16],
+    tweaks: &[u8],
+    blocks: &mut [u8],
+)
+    requires { ⌜ s + n ≤ 14 ⌝ }
+    ensures { λ r. ⌜ now (blocks .exit) ≡ eachBlock (backBlock k s n last key) (now (tweaks .entry)) (now (blocks .entry)) ⌝ }
+{
+    match k {
+        Cipher::Scream => all_back(
+            k,
+            s,
+            n,
+            last,
+            key,
+            tweaks,
+            blocks,
+            &boxes::lbox::scream_inverse::low(),
+            &boxes::lbox::scream_inverse::high(),
+            &crate::steps::constants(),
+        ),
+        Cipher::IScream => all_back(
+            k,
+            s,
+            n,
+            last,
+            key,
+            tweaks,
+            blocks,
+            &boxes::lbox::iscream::low(),
+            &boxes::lbox::iscream::high(),
+            &crate::steps::constants(),
+        ),
+    }
+}
