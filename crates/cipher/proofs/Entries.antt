@@ -9,7 +9,9 @@ use lib.ListN.{length}
 use Rattle.rounds.specs.Cipher.{encipher, decipher}
 use Rattle.rounds.specs.Blocks.{eachBlock}
 use Rattle.rounds.specs.Run.{aheadBlock, backBlock}
+use Rattle.state.specs.Block.{Block}
 use Rattle.rounds.proofs.Each.{each-one, each-ext}
+use Rattle.rounds.proofs.Inverse.{decipher-encipher, encipher-decipher}
 use Rattle.rounds.proofs.Runs.{encipher-run, decipher-run}
 use Rattle.cipher.specs.declared.refusal.Answer.the-variants.{Done, Refused}
 use Rattle.cipher.specs.declared.refusal.Refusal.the-variants.{SuiteNotListed}
@@ -81,3 +83,34 @@ module _ (cipher n : ℕ) (key t b : List ℕ) where
     pub deciphered-one : decipheredBlocks cipher n key t b ≡ deciphered cipher n key t b
     unfolding decipheredBlocks deciphered
     deciphered-one = ap (λ (l : List ℕ). cond (listed cipher n) l b) (each-one (decipher (cipherOf cipher) n key) t b ht hb)
+
+-- What an entry point gives is undone by the other, under every pair of bytes as suite: where it is not listed both leave the
+-- block as it is.
+module _ (cipher n : ℕ) (key t b : List ℕ) (k : Block key) (h : Block t) (m : Block b) where
+  pub deciphered-enciphered : deciphered cipher n key t (enciphered cipher n key t b) ≡ b
+  unfolding enciphered deciphered
+  deciphered-enciphered = either (listed cipher n)
+    where
+      e : List ℕ → List ℕ
+      e = encipher (cipherOf cipher) n key t
+
+      d : List ℕ → List ℕ
+      d = decipher (cipherOf cipher) n key t
+
+      either : (l : Bool) → cond l (d (cond l (e b) b)) (cond l (e b) b) ≡ b
+      either true = decipher-encipher (cipherOf cipher) n key t k h b m
+      either false = refl
+
+  pub enciphered-deciphered : enciphered cipher n key t (deciphered cipher n key t b) ≡ b
+  unfolding enciphered deciphered
+  enciphered-deciphered = either (listed cipher n)
+    where
+      e : List ℕ → List ℕ
+      e = encipher (cipherOf cipher) n key t
+
+      d : List ℕ → List ℕ
+      d = decipher (cipherOf cipher) n key t
+
+      either : (l : Bool) → cond l (e (cond l (d b) b)) (cond l (d b) b) ≡ b
+      either true = encipher-decipher (cipherOf cipher) n key t k h b m
+      either false = refl

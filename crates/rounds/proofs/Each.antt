@@ -2,6 +2,7 @@
 use mathlib.Core.Path.{_≡_, refl, sym, ap, _∙_}
 use mathlib.Core.List.{List, [], _∷_, _++_, append-assoc, append-nil}
 use Prim.Native.Nat.{ℕ, zero, suc, _+_, _*_, _/_, _≤_, _<_, min}
+use native.Mathlib.Decide.{ℕ-discrete}
 use native.Mathlib.Nat.{le-of-eq}
 use native.Mathlib.Numerals.{add-one}
 use native.Mathlib.Omega.{arith}
@@ -57,6 +58,44 @@ module _ (f : List ℕ → List ℕ → List ℕ) (k : Blockwise f) (t b : List 
       let end : drop (16 * n + 16) (eachOf f n t b) ≡ drop (16 * suc n) b =
       sym (drop-drop 16 (16 * n) (eachOf f n t b)) ∙ ap (drop 16) rest ∙ drop-drop 16 (16 * n) b ∙ ap (λ (m : ℕ). drop m b) sixteens in
       (λ i. front i ++ middle i ++ end i) ∙ sym (ap (λ (m : ℕ). eachOf f m t b) (add-one n))
+
+-- block i of blocks that are strung
+strung-long : (g : ℕ → List ℕ) (n : ℕ) → ((i : ℕ) → i < n → length (g i) ≡ 16) → length (strung n g) ≡ 16 * n
+unfolding strung
+strung-long g zero h = refl
+strung-long g (suc n) h =
+    length-append (strung n g) (g n) ∙ omega (arith, strung-long g n (λ i l. h i (omega arith)), h n (omega arith))
+
+block-strung : (g : ℕ → List ℕ) (n : ℕ) (rest : List ℕ) → ((i : ℕ) → i < n → length (g i) ≡ 16) → (i : ℕ) → i < n → block (strung n g ++ rest) i ≡ g i
+unfolding strung
+block-strung g zero rest h i l = absurd (omega arith)
+block-strung g (suc n) rest h i l =
+    ap (λ (x : List ℕ). block x i) (append-assoc (strung n g) (g n) rest)
+    ∙ last (ℕ-discrete i n) (λ k. block-strung g n (g n ++ rest) (λ j m. h j (omega arith)) i k)
+  where
+    last : Dec (i ≡ n) → (i < n → block (strung n g ++ (g n ++ rest)) i ≡ g i) → block (strung n g ++ (g n ++ rest)) i ≡ g i
+    last (yes e) r =
+        rw e
+        (ap (take 16) (drop-at (strung n g) (g n ++ rest) (16 * n) (strung-long g n (λ j m. h j (omega arith))))
+        ∙ take-at (g n) rest 16 (h n (omega arith)))
+    last (no d) r = r (omega arith)
+
+-- Each whole block of the outcome is f of its tweak and itself; what is behind them is as it was.
+pub block-of-each : (f : List ℕ → List ℕ → List ℕ) → Blockwise f → (t b : List ℕ) (i : ℕ) → i < min (length t) (length b) / 16
+    → block (eachBlock f t b) i ≡ f (block t i) (block b i)
+unfolding eachBlock eachOf
+block-of-each f k t b i h =
+    block-strung (λ i. f (block t i) (block b i)) (min (length t) (length b) / 16) (drop (16 * (min (length t) (length b) / 16)) b)
+    (λ j l. k .long (block t j) (block b j) (block-long t j (omega arith)) (block-long b j (omega arith))) i h
+
+pub rest-of-each : (f : List ℕ → List ℕ → List ℕ) → Blockwise f → (t b : List ℕ)
+    → drop (16 * (min (length t) (length b) / 16)) (eachBlock f t b) ≡ drop (16 * (min (length t) (length b) / 16)) b
+unfolding eachBlock
+rest-of-each f k t b = rest-is f k t b (min (length t) (length b) / 16) (omega arith) (omega arith)
+
+pub length-of-each : (f : List ℕ → List ℕ → List ℕ) → Blockwise f → (t b : List ℕ) → length (eachBlock f t b) ≡ length b
+unfolding eachBlock
+length-of-each f k t b = each-long f k t b (min (length t) (length b) / 16) (omega arith) (omega arith)
 
 -- of a single block: the block
 pub each-one : (f : List ℕ → List ℕ → List ℕ) (t b : List ℕ) → length t ≡ 16 → length b ≡ 16 → eachBlock f t b ≡ f t b
