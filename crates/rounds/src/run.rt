@@ -4,6 +4,7 @@ use state::State;
 ghost use mathlib.Core.Bool.{cond};
 ghost use mathlib.Core.Path.{_≡_};
 ghost use Prim.Native.Nat.{_+_, _/_, _≤_, min};
+ghost use lib.Dec.{leb};
 ghost use lib.ListN.{length, take, drop};
 ghost use lib.Seq.{paste};
 ghost use Rattle.rounds.specs.Blocks.{eachBlock};
@@ -17,6 +18,19 @@ fn whole(a: usize, b: usize) -> usize
     ensures { λ r. ⌜ r ≡ min a b / 16 ⌝ }
 {
     if a < b { a / 16 } else { b / 16 }
+}
+
+// Whether n steps after s others are no more than 14.
+fn is_few(s: usize, n: usize) -> bool
+    ensures { λ r. ⌜ r ≡ leb (s + n) 14 ⌝ }
+{
+    if 14 < n {
+        return false;
+    }
+    if 14 - n < s {
+        return false;
+    }
+    true
 }
 
 // With the tweakey added, or as it is.
@@ -124,9 +138,8 @@ fn all_ahead<'a>(
     }
 }
 
-// Every whole block that both slices have goes n steps ahead where s are done; TK(0) is added first if asked for.
-// For our own crates, which run no more steps than a suite has.
-pub fn run_ahead(
+// The same, with the tables of the cipher.
+fn looked_up_ahead(
     k: Cipher,
     s: usize,
     n: usize,
@@ -163,6 +176,24 @@ pub fn run_ahead(
             &boxes::lbox::iscream::high(),
             &crate::steps::constants(),
         ),
+    }
+}
+
+// Every whole block that both slices have goes n steps ahead where s are done; TK(0) is added first if asked for.
+// More than 14 steps, which no suite has, change nothing.
+pub fn run_ahead(
+    k: Cipher,
+    s: usize,
+    n: usize,
+    first: bool,
+    key: [u8; 16],
+    tweaks: &[u8],
+    blocks: &mut [u8],
+)
+    ensures { λ r. ⌜ now (blocks .exit) ≡ cond (leb (s + n) 14) (eachBlock (aheadBlock k s n first key) (now (tweaks .entry)) (now (blocks .entry))) (now (blocks .entry)) ⌝ }
+{
+    if is_few(s, n) {
+        looked_up_ahead(k, s, n, first, key, tweaks, blocks);
     }
 }
 
@@ -235,9 +266,8 @@ fn all_back<'a>(
     }
 }
 
-// Of every whole block that both slices have the n steps after s others are undone; TK(0) is added last if asked for.
-// For our own crates, which run no more steps than a suite has.
-pub fn run_back(
+// The same, with the tables of the cipher.
+fn looked_up_back(
     k: Cipher,
     s: usize,
     n: usize,
@@ -274,5 +304,23 @@ pub fn run_back(
             &boxes::lbox::iscream::high(),
             &crate::steps::constants(),
         ),
+    }
+}
+
+// Of every whole block that both slices have the n steps after s others are undone; TK(0) is added last if asked for.
+// More than 14 steps, which no suite has, change nothing.
+pub fn run_back(
+    k: Cipher,
+    s: usize,
+    n: usize,
+    last: bool,
+    key: [u8; 16],
+    tweaks: &[u8],
+    blocks: &mut [u8],
+)
+    ensures { λ r. ⌜ now (blocks .exit) ≡ cond (leb (s + n) 14) (eachBlock (backBlock k s n last key) (now (tweaks .entry)) (now (blocks .entry))) (now (blocks .entry)) ⌝ }
+{
+    if is_few(s, n) {
+        looked_up_back(k, s, n, last, key, tweaks, blocks);
     }
 }
