@@ -5,8 +5,7 @@ use mathlib.Core.Bool.{Bool, true, false, cond}
 use Prim.Native.Nat.{ℕ, zero, suc, _+_, _*_, _≤_, _<_}
 use native.Mathlib.Nat.{add-zero}
 use native.Mathlib.Omega.{arith}
-use lib.Dec.{ltb}
-use borrow.Author.Tests.{lt-ltb, le-ltb}
+use lib.Dec.{leb, ltb}
 use lib.ListN.{length, getD}
 use Rattle.bits.specs.Table.{tab}
 use Rattle.bits.proofs.Lists.{length-tab}
@@ -97,26 +96,21 @@ back-blockwise c s n last key =
           (cond-long last (addRows y (tk 0)) y (add-long y (tk 0)) (unsteps-long (parts c) tk s n (rows b) (rows-long 8 b hb)));
     }
 
-module _ (c : Cipher) (s : ℕ) (key t b : List ℕ) where
-  module _ (ht : length t ≡ 16) (hb : length b ≡ 16) (few : s < 14) where
-    pub stepped-one : eachBlock (aheadBlock c s 1 false key) t b ≡ stepped c s key t b
-    unfolding stepped
-    stepped-one =
-        each-one (aheadBlock c s 1 false key) t b ht hb
-        ∙ step-run c s key t b
-        ∙ ap (λ (l : Bool). cond l (bytes (step (parts c) (tweakeys c key t) s (rows b))) b) (sym (lt-ltb s 14 few))
+-- the limit of a run of one is that of a step
+limit-of-one : (s : ℕ) → leb (s + 1) 14 ≡ ltb s 14
+limit-of-one s =
+    let e : s + 1 ≡ suc s = omega arith in
+    ap (λ (k : ℕ). leb k 14) e
 
-    pub unstepped-one : eachBlock (backBlock c s 1 false key) t b ≡ unstepped c s key t b
-    unfolding unstepped
-    unstepped-one =
-        each-one (backBlock c s 1 false key) t b ht hb
-        ∙ unstep-run c s key t b
-        ∙ ap (λ (l : Bool). cond l (bytes (unstep (parts c) (tweakeys c key t) s (rows b))) b) (sym (lt-ltb s 14 few))
-
-  pub stepped-none : 14 ≤ s → b ≡ stepped c s key t b
+module _ (c : Cipher) (s : ℕ) (key t b : List ℕ) (ht : length t ≡ 16) (hb : length b ≡ 16) where
+  pub stepped-run : cond (leb (s + 1) 14) (eachBlock (aheadBlock c s 1 false key) t b) b ≡ stepped c s key t b
   unfolding stepped
-  stepped-none many = ap (λ (l : Bool). cond l (bytes (step (parts c) (tweakeys c key t) s (rows b))) b) (sym (le-ltb s 14 many))
+  stepped-run =
+      ap (λ (l : Bool). cond l (eachBlock (aheadBlock c s 1 false key) t b) b) (limit-of-one s)
+      ∙ ap (λ (x : List ℕ). cond (ltb s 14) x b) (each-one (aheadBlock c s 1 false key) t b ht hb ∙ step-run c s key t b)
 
-  pub unstepped-none : 14 ≤ s → b ≡ unstepped c s key t b
+  pub unstepped-run : cond (leb (s + 1) 14) (eachBlock (backBlock c s 1 false key) t b) b ≡ unstepped c s key t b
   unfolding unstepped
-  unstepped-none many = ap (λ (l : Bool). cond l (bytes (unstep (parts c) (tweakeys c key t) s (rows b))) b) (sym (le-ltb s 14 many))
+  unstepped-run =
+      ap (λ (l : Bool). cond l (eachBlock (backBlock c s 1 false key) t b) b) (limit-of-one s)
+      ∙ ap (λ (x : List ℕ). cond (ltb s 14) x b) (each-one (backBlock c s 1 false key) t b ht hb ∙ unstep-run c s key t b)

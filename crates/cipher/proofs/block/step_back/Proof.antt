@@ -1,33 +1,15 @@
 -- A step is a run of one.
-use mathlib.Core.Path.{ap, _∙_}
-use mathlib.Core.Bool.{false, cond}
-use Prim.Native.Nat.{_+_}
+use mathlib.Core.Path.{_∙_}
 use native.Mathlib.Omega.{arith}
 use borrow.Author.Needs.{needs}
-use borrow.Author.Tests.{le-leb}
-use Rattle.rounds.specs.Blocks.{eachBlock}
-use Rattle.rounds.specs.Run.{backBlock}
-use Rattle.rounds.proofs.Runs.{unstepped-one, unstepped-none}
+use Rattle.rounds.proofs.Runs.{unstepped-run}
 use Rattle.cipher.proofs.block.step_back.Statement.{statement}
 use Rattle.cipher.proofs.block.step_back.Tie as tie
 
 returns : tie.Need-returns
 returns c =
-    let a = c .before .before .before .before .before .args in
-    c .before .run-back .ensures
-    ∙ ap (λ l. cond l (eachBlock (backBlock (a .cipher) (a .done) 1 false (a .key)) (a .t4) (a .block)) (a .block)) (le-leb (a .done + 1) 14 (omega arith)) ∙ unstepped-one (a .cipher) (a .done) (a .key) (a .t4) (a .block) (omega arith) (omega arith) (omega arith)
-
-returns-2 : tie.Need-returns-2
-returns-2 c =
-    let a = c .before .args in
-    unstepped-none (a .cipher) (a .done) (a .key) (a .t4) (a .block) (c .if1 .left)
+    let a = c .before .before .before .before .args in
+    c .before .run-back .ensures ∙ unstepped-run (a .cipher) (a .done) (a .key) (a .t4) (a .block) (omega arith) (omega arith)
 
 pub step-back-spec : {M : Type 1} → statement M
-step-back-spec =
-    tie.close
-    (tie.spec
-    (λ c. search needs)
-    (λ c. search needs)
-    (λ c κs. search needs)
-    returns
-    returns-2)
+step-back-spec = tie.close (tie.spec (λ c. search needs) (λ c. search needs) (λ c κs. search needs) returns)
