@@ -1,3 +1,7 @@
+pub mod Added
+pub mod BigEndian
 pub mod Bits
+pub mod Bytes
+pub mod Fronts
 pub mod Lists
 pub mod Tests

@@ -3,9 +3,11 @@
 use mathlib.Core.Path.{_≡_}
 use mathlib.Core.List.{List, [], _∷_}
 use Prim.Native.Nat.{ℕ}
-use lib.ListN.{getD}
+use lib.ListN.{length, getD, replicate}
 use Rattle.boxes.specs.Sbox
 use Rattle.boxes.specs.Lbox
+use Rattle.calls.specs.Calls.{calls}
+use Rattle.calls.specs.Tweak.{textTweak, headerTweak}
 use Rattle.rounds.specs.Tweakey.{φ, rotatedRow}
 
 pub record Value : Type 0 where
@@ -23,6 +25,10 @@ are a b = record { computed = a; stated = b }
 -- two halves of eight bytes, each with a number below 65536, as rows
 abbrev halves : ℕ → ℕ → List ℕ
 halves a b = a ∷ 0 ∷ 0 ∷ 0 ∷ b ∷ 0 ∷ 0 ∷ 0 ∷ []
+
+-- how many calls there are for a header of a bytes and a text of m
+abbrev callsFor : ℕ → ℕ → ℕ
+callsFor a m = length (calls (0 ∷ []) (replicate a 0) (replicate m 0))
 
 unfoldable pub known : List Value
 known =
@@ -42,6 +48,14 @@ known =
     are (φ (halves 2 3)) (halves 1 2) ∷
     -- 5: "Row 8001 rotated is 0003"
     is (rotatedRow 0x8001) 0x0003 ∷
+    -- 6: "n = 15, last byte: text block 126 7E, header block 62 BE"
+    is (getD (textTweak (replicate 15 0) 126) 15 0) 0x7E ∷
+    is (getD (headerTweak (replicate 15 0) 62) 15 0) 0xBE ∷
+    -- 7: "Calls for (a, m): (0, 0) 1; (16, 16) 3; (17, 17) 5; (25, 13) 4"
+    is (callsFor 0 0) 1 ∷
+    is (callsFor 16 16) 3 ∷
+    is (callsFor 17 17) 5 ∷
+    is (callsFor 25 13) 4 ∷
     []
 
 -- each value of a list is computed as it is stated

@@ -1,9 +1,20 @@
-// Runs the cases that another implementation made: each block is enciphered and each outcome deciphered, and what comes out
-// is written. The file `stdout` beside this folder is made from the same cases by tests/expected.
+// Runs the cases that another implementation made and writes what comes out; then the limits of known values 9. The file
+// `stdout` beside this folder is made from the same cases by tests/expected.
+use cipher::refusal::Refusal;
 use cipher::suite::Suite;
 use libc::STDOUT_FILENO;
-ghost use Prim.Native.Nat.{_+_, _<_, _≤_};
+use tae::open::OpenAnswer;
+use tae::seal::SealAnswer;
+ghost use Prim.Native.Nat.{_<_, _≤_};
 ghost use lib.ListN.{length};
+ghost use Rattle.io.specs.Counts.{Counts};
+
+// What the cases of a file are of.
+enum Kind {
+    Cipher,
+    Seal,
+    Open,
+}
 
 fn get(s: &[u8], i: usize) -> u8 {
     if i < s.len() { s[i] } else { 0 }
@@ -26,21 +37,35 @@ fn digit(c: u8) -> u8
 
 // The byte that two hexadecimal digits say.
 fn byte_at(s: &[u8], at: usize) -> u8
-    requires { ⌜ at < 100000 ⌝ }
+    requires { ⌜ at < 300000 ⌝ }
 {
     digit(get(s, at)) * 16 + digit(get(s, at + 1))
 }
 
-// The block that 32 digits say.
-fn block_at(s: &[u8], at: usize) -> [u8; 16]
-    requires { ⌜ at < 90000 ⌝ }
+// The bytes of the field at a place, at the buffer's start, as far as it goes; and how many. A field ends before the first
+// byte that is below the digits: a blank, a line feed, or the `-` that stands for no bytes.
+fn decode(s: &[u8], at: usize, out: &mut [u8]) -> usize
+    requires { ⌜ (at ≤ 262144) × (length (now out) ≤ 16384) ⌝ }
+    ensures { λ r. ⌜ Counts r (now (out .exit)) ⌝ }
 {
-    let mut b = [0u8; 16];
+    let n = out.len();
     let mut i: usize = 0;
-    while i < 16 {
-        b[i] = byte_at(s, at + 2 * i);
+    while i < n {
+        let place = at + 2 * i;
+        if get(s, place) < b'0' {
+            return i;
+        }
+        out[i] = byte_at(s, place);
         i += 1;
     }
+    i
+}
+
+fn block_at(s: &[u8], at: usize) -> [u8; 16]
+    requires { ⌜ at ≤ 262144 ⌝ }
+{
+    let mut b = [0u8; 16];
+    decode(s, at, &mut b);
     b
 }
 
@@ -50,58 +75,46 @@ fn hex(n: u8) -> u8
     if n < 10 { n + 48 } else { n + 55 }
 }
 
-fn put_byte(line: [u8; 71], at: usize, b: u8) -> [u8; 71]
-    requires { ⌜ at < 70 ⌝ }
-{
-    let mut l = line;
-    l[at] = hex(b / 16 % 16);
-    l[at + 1] = hex(b % 16);
-    l
+fn write(text: &[u8]) {
+    io::write_all(STDOUT_FILENO, text);
 }
 
-fn put_block(line: [u8; 71], at: usize, b: [u8; 16]) -> [u8; 71]
-    requires { ⌜ at < 40 ⌝ }
-{
-    let mut l = line;
+fn write_number(n: usize) {
+    io::print_decimal(STDOUT_FILENO, n as u64);
+}
+
+fn write_byte(b: u8) {
+    write(&[hex(b / 16 % 16), hex(b % 16)]);
+}
+
+// The first n bytes in digits, or `-` for none.
+fn write_bytes(b: &[u8], n: usize) {
+    if n == 0 {
+        write(b"-");
+    }
     let mut i: usize = 0;
-    while i < 16 {
-        let next = put_byte(l, at + 2 * i, b[i]);
-        l = next;
+    while i < n {
+        write_byte(get(b, i));
         i += 1;
     }
-    l
 }
 
-// One case: suite, key, tweak, block and the block enciphered, with a blank between them. Writes the suite, what enciphering
-// the block gives and what deciphering the enciphered block gives.
-fn run_case(s: &[u8], at: usize)
-    requires { ⌜ at < 80000 ⌝ }
-{
-    let cipher = byte_at(s, at);
-    let steps = byte_at(s, at + 2);
-    let suite = Suite { cipher, steps };
-    let key = block_at(s, at + 5);
-    let tweak = block_at(s, at + 38);
-    let enciphered = cipher::block::encipher(suite, key, tweak, block_at(s, at + 71));
-    let deciphered = cipher::block::decipher(suite, key, tweak, block_at(s, at + 104));
-    let e = enciphered.block;
-    let d = deciphered.block;
-    let l0 = put_byte([b' '; 71], 0, cipher);
-    let l1 = put_byte(l0, 2, steps);
-    let l2 = put_block(l1, 5, e);
-    let mut l3 = put_block(l2, 38, d);
-    l3[70] = b'\n';
-    io::write_all(STDOUT_FILENO, &l3);
+fn write_block(b: [u8; 16]) {
+    write_bytes(&b, 16);
 }
 
-// The place behind the next line feed.
-fn next_line(s: &[u8], at: usize) -> usize
-    requires { ⌜ at < length (now s) ⌝ }
-    ensures { λ r. ⌜ (at < r) × (r ≤ length (now (s .entry))) ⌝ }
+fn write_refusal(why: Refusal) {
+    write(b"refused:");
+    write_number(why.number() as usize);
+}
+
+// The place behind the next `stop`, or the end.
+fn behind(s: &[u8], at: usize, stop: u8) -> usize
+    ensures { λ r. ⌜ (r ≤ length (now (s .entry))) × (at < length (now (s .entry)) → at < r) ⌝ }
 {
     let mut i = at;
     while i < s.len() {
-        if s[i] == b'\n' {
+        if s[i] == stop {
             return i + 1;
         }
         i += 1;
@@ -109,29 +122,138 @@ fn next_line(s: &[u8], at: usize) -> usize
     s.len()
 }
 
+// Key, tweak, block and the block enciphered: what enciphering the block gives, and what deciphering the other one gives.
+fn run_cipher(suite: Suite, s: &[u8], at: usize)
+    requires { ⌜ (at ≤ length (now s)) × (length (now s) ≤ 262144) ⌝ }
+{
+    let key = block_at(s, at);
+    let t = behind(s, at, b' ');
+    let tweak = block_at(s, t);
+    let b = behind(s, t, b' ');
+    let enciphered = cipher::block::encipher(suite, key, tweak, block_at(s, b));
+    let c = behind(s, b, b' ');
+    let deciphered = cipher::block::decipher(suite, key, tweak, block_at(s, c));
+    let e = enciphered.block;
+    let d = deciphered.block;
+    write_block(e);
+    write(b" ");
+    write_block(d);
+}
+
+// The sealed bytes and the number of cipher calls.
+fn run_seal(suite: Suite, key: &[u8], nonce: &[u8], header: &[u8], text: &[u8]) {
+    let mut out = [0u8; 16384];
+    match tae::seal::seal(suite, key, nonce, header, text, &mut out) {
+        SealAnswer::Sealed(n, calls) => {
+            write_bytes(&out, n);
+            write(b" ");
+            write_number(calls);
+        }
+        SealAnswer::Refused(why) => write_refusal(why),
+    }
+}
+
+// The text.
+fn run_open(suite: Suite, key: &[u8], nonce: &[u8], header: &[u8], sealed: &[u8]) {
+    let mut out = [0u8; 16384];
+    match tae::open::open(suite, key, nonce, header, sealed, &mut out) {
+        OpenAnswer::Opened(n) => write_bytes(&out, n),
+        OpenAnswer::Refused(why) => write_refusal(why),
+    }
+}
+
+// Key, nonce, header, and the text that is sealed or the sealed bytes that are opened.
+fn run_tae(sealing: bool, suite: Suite, s: &[u8], at: usize)
+    requires { ⌜ (at ≤ length (now s)) × (length (now s) ≤ 262144) ⌝ }
+{
+    let mut key = [0u8; 32];
+    let mut nonce = [0u8; 32];
+    let mut header = [0u8; 4096];
+    let mut input = [0u8; 16384];
+    let k = decode(s, at, &mut key);
+    let at_nonce = behind(s, at, b' ');
+    let n = decode(s, at_nonce, &mut nonce);
+    let at_header = behind(s, at_nonce, b' ');
+    let a = decode(s, at_header, &mut header);
+    let at_input = behind(s, at_header, b' ');
+    let m = decode(s, at_input, &mut input);
+    if sealing {
+        run_seal(suite, &key[..k], &nonce[..n], &header[..a], &input[..m]);
+    } else {
+        run_open(suite, &key[..k], &nonce[..n], &header[..a], &input[..m]);
+    }
+}
+
+// One case: the suite, and what its file has. Fields have a blank between them.
+fn run_case(kind: Kind, s: &[u8], at: usize)
+    requires { ⌜ (at ≤ length (now s)) × (length (now s) ≤ 262144) ⌝ }
+{
+    let cipher = byte_at(s, at);
+    let steps = byte_at(s, at + 2);
+    let suite = Suite { cipher, steps };
+    let next = behind(s, at, b' ');
+    write_byte(cipher);
+    write_byte(steps);
+    write(b" ");
+    match kind {
+        Kind::Cipher => run_cipher(suite, s, next),
+        Kind::Seal => run_tae(true, suite, s, next),
+        Kind::Open => run_tae(false, suite, s, next),
+    }
+    write(b"\n");
+}
+
 // Every line that is no comment is a case.
-fn run_cases(s: &[u8])
-    requires { ⌜ length (now s) ≤ 65536 ⌝ }
+fn run_cases(kind: Kind, s: &[u8])
+    requires { ⌜ length (now s) ≤ 262144 ⌝ }
 {
     let mut at: usize = 0;
     while at < s.len() {
         if s[at] != b'#' {
-            run_case(s, at);
+            run_case(kind, s, at);
         }
-        let next = next_line(s, at);
+        let next = behind(s, at, b'\n');
         at = next;
     }
 }
 
-fn main() {
-    let path = b"cipher.txt";
+fn run_file(kind: Kind, path: &[u8]) {
     let fd = os::open_read(path);
     if fd < 0 {
         os::fail(path);
         return;
     }
-    let mut buf = io::large_buffer();
+    let mut buf = [0u8; 262144];
     let n = io::read_full(fd, &mut buf);
     libc::close(fd);
-    run_cases(&buf[..n]);
+    run_cases(kind, &buf[..n]);
+}
+
+// Whether header and text pass under a nonce of 15 bytes; one of the two is empty.
+fn run_limit(name: &[u8], header: &[u8], text: &[u8])
+    requires { ⌜ (length (now header) ≤ 4096) × (length (now text) ≤ 4096) ⌝ }
+{
+    let mut out = [0u8; 8192];
+    let suite = Suite {
+        cipher: Suite::SCREAM,
+        steps: 10,
+    };
+    write(name);
+    write_number(header.len() + text.len());
+    write(b" ");
+    match tae::seal::seal(suite, &[0u8; 16], &[0u8; 15], header, text, &mut out) {
+        SealAnswer::Sealed(_, _) => write(b"passes"),
+        SealAnswer::Refused(why) => write_refusal(why),
+    }
+    write(b"\n");
+}
+
+fn main() {
+    run_file(Kind::Cipher, b"cipher.txt");
+    run_file(Kind::Seal, b"seal.txt");
+    run_file(Kind::Open, b"open.txt");
+    run_limit(b"text ", b"", &[0u8; 2048]);
+    run_limit(b"text ", b"", &[0u8; 2049]);
+    run_limit(b"header ", &[0u8; 1024], b"");
+    run_limit(b"header ", &[0u8; 1025], b"");
 }

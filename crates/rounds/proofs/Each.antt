@@ -14,7 +14,7 @@ use Rattle.rounds.specs.Blocks.{block, strung, eachOf, eachBlock}
 pub record Blockwise (f : List ℕ → List ℕ → List ℕ) : Type 0 where
   pub long : (t b : List ℕ) → length t ≡ 16 → length b ≡ 16 → length (f t b) ≡ 16
 
-block-long : (l : List ℕ) (i : ℕ) → 16 * i + 16 ≤ length l → length (block l i) ≡ 16
+pub block-long : (l : List ℕ) (i : ℕ) → 16 * i + 16 ≤ length l → length (block l i) ≡ 16
 block-long l i h = length-take-le 16 (drop (16 * i) l) (rw (length-drop (16 * i) l) (omega arith))
 
 module _ (f : List ℕ → List ℕ → List ℕ) (k : Blockwise f) (t b : List ℕ) where
@@ -59,12 +59,12 @@ module _ (f : List ℕ → List ℕ → List ℕ) (k : Blockwise f) (t b : List 
       sym (drop-drop 16 (16 * n) (eachOf f n t b)) ∙ ap (drop 16) rest ∙ drop-drop 16 (16 * n) b ∙ ap (λ (m : ℕ). drop m b) sixteens in
       (λ i. front i ++ middle i ++ end i) ∙ sym (ap (λ (m : ℕ). eachOf f m t b) (add-one n))
 
--- block i of blocks that are strung
-strung-long : (g : ℕ → List ℕ) (n : ℕ) → ((i : ℕ) → i < n → length (g i) ≡ 16) → length (strung n g) ≡ 16 * n
+-- blocks that are strung: how long they are, and block i of them
+pub strung-whole : (n : ℕ) (g : ℕ → List ℕ) → ((i : ℕ) → i < n → length (g i) ≡ 16) → length (strung n g) ≡ 16 * n
 unfolding strung
-strung-long g zero h = refl
-strung-long g (suc n) h =
-    length-append (strung n g) (g n) ∙ omega (arith, strung-long g n (λ i l. h i (omega arith)), h n (omega arith))
+strung-whole zero g h = refl
+strung-whole (suc n) g h =
+    length-append (strung n g) (g n) ∙ omega (arith, strung-whole n g (λ i l. h i (omega arith)), h n (omega arith))
 
 block-strung : (g : ℕ → List ℕ) (n : ℕ) (rest : List ℕ) → ((i : ℕ) → i < n → length (g i) ≡ 16) → (i : ℕ) → i < n → block (strung n g ++ rest) i ≡ g i
 unfolding strung
@@ -76,7 +76,7 @@ block-strung g (suc n) rest h i l =
     last : Dec (i ≡ n) → (i < n → block (strung n g ++ (g n ++ rest)) i ≡ g i) → block (strung n g ++ (g n ++ rest)) i ≡ g i
     last (yes e) r =
         rw e
-        (ap (take 16) (drop-at (strung n g) (g n ++ rest) (16 * n) (strung-long g n (λ j m. h j (omega arith))))
+        (ap (take 16) (drop-at (strung n g) (g n ++ rest) (16 * n) (strung-whole n g (λ j m. h j (omega arith))))
         ∙ take-at (g n) rest 16 (h n (omega arith)))
     last (no d) r = r (omega arith)
 

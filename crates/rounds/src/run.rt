@@ -43,8 +43,8 @@ fn added(wanted: bool, x: State, t: State) -> State
     x
 }
 
-// The block that stands at a place of a slice.
-fn block_at(s: &[u8], at: usize) -> [u8; 16]
+// The block that stands at a place of a slice; for the crates above, which know that it is there.
+pub fn block_at(s: &[u8], at: usize) -> [u8; 16]
     requires { ⌜ at + 16 ≤ length (now s) ⌝ }
     ensures { λ r. ⌜ r ≡ take 16 (drop at (now (s .entry))) ⌝ }
 {
@@ -57,8 +57,8 @@ fn block_at(s: &[u8], at: usize) -> [u8; 16]
     b
 }
 
-// A block put at a place of a slice.
-fn put_at(d: &mut [u8], at: usize, b: [u8; 16])
+// A block put at a place of a slice; likewise.
+pub fn put_at(d: &mut [u8], at: usize, b: [u8; 16])
     requires { ⌜ at + 16 ≤ length (now d) ⌝ }
     ensures { λ r. ⌜ now (d .exit) ≡ paste (now (d .entry)) at b 16 ⌝ }
 {

@@ -1,0 +1,18 @@
+-- Strings of bytes.
+use mathlib.Core.List.{List, [], _∷_, zipWith}
+use Prim.Native.Nat.{ℕ, zero, suc, _/_, _%_, _^_, _<_}
+use lib.Bits.{bitXor}
+use lib.ListN.{getD}
+
+-- every element is a byte; past the last stands 0, so the bound is said of every index
+pub record Bytes (s : List ℕ) : Type 0 where
+  pub fit : (i : ℕ) → getD s i 0 < 256
+
+-- the k lowest bytes of a number, the highest first
+unfoldable pub bigEndian : ℕ → ℕ → List ℕ
+bigEndian zero v = []
+bigEndian (suc k) v = v / 256 ^ k % 256 ∷ bigEndian k v
+
+-- two strings added by xor, as far as both go
+unfoldable pub added : List ℕ → List ℕ → List ℕ
+added x y = zipWith bitXor x y

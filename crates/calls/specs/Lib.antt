@@ -1,0 +1,4 @@
+pub mod Tweak
+pub mod Calls
+pub mod Sealing
+pub mod Pieces

@@ -1,0 +1,74 @@
+-- Sealing and opening over any pair of functions that encipher and decipher a block under a tweak.
+use mathlib.Core.Bool.{Bool, false, true, cond}
+use mathlib.Core.List.{List, [], _∷_, _++_, map}
+use Prim.Native.Nat.{ℕ}
+use lib.Dec.{eqb}
+use lib.ListN.{length, replicate}
+use Rattle.bits.specs.Bytes.{added}
+use Rattle.rounds.specs.Blocks.{block, strung}
+use Rattle.calls.specs.Tweak.{blocksOf, inner}
+use Rattle.calls.specs.Calls.{Place, header, text, tag, CipherCall, blockCalls, tagCall, calls}
+
+-- what a cipher call gave, with its place
+pub record Outcome : Type 0 where
+  pub place : Place
+  pub block : List ℕ
+
+-- the calls run, one after the other
+unfoldable pub run : (CipherCall → List ℕ) → List CipherCall → List Outcome
+run f cs = map (λ c. record { place = c .place; block = f c }) cs
+
+abbrev pub isText : ℕ → Place → Bool
+isText i (header j) = false
+isText i (text j) = eqb i j
+isText i tag = false
+
+-- the outcome of text block i
+unfoldable pub outcomeAt : ℕ → List Outcome → List ℕ
+outcomeAt i [] = []
+outcomeAt i (o ∷ os) = cond (isText i (o .place)) (o .block) (outcomeAt i os)
+
+-- a text, or a ciphertext, with the outcome of each block in its place: a last block's "leading bytes are added to it by xor"
+unfoldable pub placed : List ℕ → List Outcome → List ℕ
+placed t os = strung (blocksOf (length t)) (λ i. cond (inner (length t) i) (outcomeAt i os) (added (block t i) (outcomeAt i os)))
+
+-- what an outcome adds to the tag
+abbrev pub tagPart : Place → List ℕ → List ℕ
+tagPart (header j) b = b
+tagPart (text j) b = replicate 16 0
+tagPart tag b = b
+
+-- "Tag: enciphered checksum xor all enciphered header blocks. Empty header: no call, zero."
+unfoldable pub tagOf : List Outcome → List ℕ
+tagOf [] = replicate 16 0
+tagOf (o ∷ os) = added (tagPart (o .place) (o .block)) (tagOf os)
+
+module _ (e d : List ℕ → List ℕ → List ℕ) where
+  -- a call of a sealing
+  abbrev pub ahead : CipherCall → List ℕ
+  ahead c = e (c .tweak) (c .block)
+
+  abbrev pub isInner : ℕ → Place → Bool
+  isInner m (header j) = false
+  isInner m (text j) = inner m j
+  isInner m tag = false
+
+  -- a call of an opening: only the text blocks that are not last are deciphered
+  abbrev pub back : ℕ → CipherCall → List ℕ
+  back m c = cond (isInner m (c .place)) (d (c .tweak) (c .block)) (e (c .tweak) (c .block))
+
+  -- "Sealed bytes are ciphertext, then tag."
+  unfoldable pub sealing : List ℕ → List ℕ → List ℕ → List ℕ
+  sealing nonce h t = let os = run ahead (calls nonce h t) in placed t os ++ tagOf os
+
+  -- the outcomes of an opening's calls before its tag call
+  unfoldable pub openOutcomes : List ℕ → List ℕ → List ℕ → List Outcome
+  openOutcomes nonce h c = run (back (length c)) (blockCalls nonce h c)
+
+  -- the text of a ciphertext
+  unfoldable pub opening : List ℕ → List ℕ → List ℕ → List ℕ
+  opening nonce h c = placed c (openOutcomes nonce h c)
+
+  -- the tag that belongs to that text
+  unfoldable pub openingTag : List ℕ → List ℕ → List ℕ → List ℕ
+  openingTag nonce h c = added (ahead (tagCall nonce (opening nonce h c))) (tagOf (openOutcomes nonce h c))

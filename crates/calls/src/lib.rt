@@ -1,0 +1,1 @@
+// No code: the definitions of the call list, of sealing and of opening, and their laws.

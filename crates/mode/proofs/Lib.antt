@@ -1,0 +1,4 @@
+pub mod Chunks
+pub mod Headers
+pub mod Parts
+pub mod Sums

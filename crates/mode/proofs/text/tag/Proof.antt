@@ -1,0 +1,21 @@
+-- By what it calls.
+use mathlib.Core.Path.{ap, _∙_}
+use borrow.Author.Needs.{needs}
+use Rattle.bits.specs.Bytes.{added}
+use Rattle.calls.specs.Pieces.{tagFrom}
+use Rattle.calls.specs.Tweak.{specialTweak}
+use Rattle.mode.specs.Under.{enciphers}
+use Rattle.mode.proofs.text.tag.Statement.{statement}
+use Rattle.mode.proofs.text.tag.Tie as tie
+
+returns : tie.Need-returns
+unfolding tagFrom
+returns c =
+    let a = c .before .before .before .before .before .args in
+    c .add .ensures
+    ∙ ap (λ b. added b (a .sum))
+    (c .before .encipher-one .ensures
+    ∙ ap (λ t. enciphers (a .suite) (a .key) t (a .checksum)) (c .before .before .special-tweak .ensures ∙ ap (specialTweak (a .nonce .now)) (c .before .before .before .mark .ensures)))
+
+pub tag-spec : {M : Type 1} → statement M
+tag-spec = tie.close (tie.spec (λ c κs. search needs) (λ c κs. search needs) (λ c κs. search needs) (λ c κs. search needs) returns)

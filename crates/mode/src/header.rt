@@ -1,0 +1,69 @@
+// The header's sum.
+use cipher::suite::Suite;
+use tweak::HeaderBlock;
+ghost use mathlib.Core.Path.{_≡_};
+ghost use Prim.Native.Nat.{_+_, _*_, _^_, _<_, _≤_};
+ghost use lib.ListN.{length};
+ghost use Rattle.calls.specs.Calls.{sumOf};
+ghost use Rattle.calls.specs.Pieces.{headerSum};
+ghost use Rattle.calls.specs.Tweak.{headerTweak};
+ghost use Rattle.rounds.specs.Blocks.{block};
+ghost use Rattle.mode.specs.Sums.{sumFrom};
+ghost use Rattle.mode.specs.Text.{Usable};
+ghost use Rattle.mode.specs.Under.{enciphers};
+
+// The first k blocks of the header enciphered, each under the tweak of its number, from `first` on, and added to a sum.
+fn chunk(
+    suite: Suite,
+    key: [u8; 16],
+    nonce: &[u8],
+    first: u64,
+    k: usize,
+    header: &[u8],
+    sum: [u8; 16],
+) -> [u8; 16]
+    requires { ⌜ Usable suite (now nonce) × (k ≤ 64) × (16 * k ≤ length (now header)) × (first + k < 2 ^ 64) ⌝ }
+    ensures { λ r. ⌜ r ≡ sumFrom sum k (λ i. enciphers suite key (headerTweak (now (nonce .entry)) (first + i)) (block (now (header .entry)) i)) ⌝ }
+{
+    let mut tweaks = [0u8; 1024];
+    let mut blocks = [0u8; 1024];
+    let end = 16 * k;
+    tweak::header_tweaks(nonce, HeaderBlock(first), k, &mut tweaks);
+    crate::bytes::copy(&header[..end], &mut blocks);
+    cipher::blocks::encipher_blocks(suite, key, &tweaks[..end], &mut blocks);
+    crate::bytes::add_blocks(sum, &blocks[..end])
+}
+
+// The first n blocks of the header, none of them last, enciphered and added up.
+fn inner(suite: Suite, key: [u8; 16], nonce: &[u8], header: &[u8], n: usize) -> [u8; 16]
+    requires { ⌜ Usable suite (now nonce) × (16 * n ≤ length (now header)) × (length (now header) ≤ 2 ^ 24) ⌝ }
+    ensures { λ r. ⌜ r ≡ sumOf n (λ i. enciphers suite key (headerTweak (now (nonce .entry)) i) (block (now (header .entry)) i)) ⌝ }
+{
+    let mut sum = [0u8; 16];
+    let mut done: usize = 0;
+    while done < n {
+        let k = crate::text::few(n - done);
+        let at = 16 * done;
+        let next = chunk(suite, key, nonce, done as u64, k, &header[at..], sum);
+        sum = next;
+        done += k;
+    }
+    sum
+}
+
+// All blocks of the header enciphered and added up; zero for an empty header.
+pub fn sum(suite: Suite, key: [u8; 16], nonce: &[u8], header: &[u8]) -> [u8; 16]
+    requires { ⌜ Usable suite (now nonce) × (length (now header) ≤ 2 ^ 24) ⌝ }
+    ensures { λ r. ⌜ r ≡ headerSum (enciphers suite key) (now (nonce .entry)) (now (header .entry)) ⌝ }
+{
+    let a = header.len();
+    if a == 0 {
+        return [0u8; 16];
+    }
+    let n = (a - 1) / 16;
+    let whole = inner(suite, key, nonce, header, n);
+    let at = 16 * n;
+    let last = crate::bytes::fill(&header[at..], 0x80);
+    let t = tweak::special_tweak(nonce, crate::text::mark(a, 0xD0, 0xD8));
+    crate::bytes::add(whole, crate::text::encipher_one(suite, key, t, last))
+}

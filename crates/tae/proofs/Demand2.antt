@@ -1,0 +1,175 @@
+-- Demand 2 holds, for every suite, key, nonce and header of bytes.
+use mathlib.Core.Path.{_≡_, refl, sym, ap, _∙_}
+use mathlib.Core.Bool.{Bool, true, false, _&&_, false≢true}
+use mathlib.Core.List.{List, _++_}
+use Prim.Native.Nat.{ℕ, zero, suc, _+_, _-_, _≤_, _<_}
+use native.Mathlib.Decide.{ℕ-discrete}
+use native.Mathlib.Nat.{suc-inj}
+use native.Mathlib.Omega.{arith}
+use borrow.Author.Tests.{eqb-true, eq-eqb}
+use lib.Dec.{eqb}
+use lib.ListN.{length, getD, take, drop, length-drop}
+use lib.Seq.{ext-getD, take-at, length-take-le}
+use Rattle.bits.specs.Bytes.{Bytes}
+use Rattle.calls.specs.Calls.{checksum}
+use Rattle.calls.specs.Pieces.{through, headerSum}
+use Rattle.calls.specs.Sealing.{sealing, opening, openingTag}
+use Rattle.calls.proofs.ByBlocks.{opening-is, openingTag-is, length-tagFrom, length-checksum, length-headerSum, length-sealing, length-through}
+use Rattle.calls.proofs.Exact.{Inverse, open-exact, open-sealed, sealing-one}
+use Rattle.cipher.specs.declared.refusal.Answer.the-variants.{Done}
+use Rattle.cipher.specs.declared.suite.Suite.{Suite}
+use Rattle.cipher.specs.Suite.{cipherOf}
+use Rattle.limits.proofs.Passed.{Sealable, Openable as Passing, seal-passed, open-passed, open-passes}
+use Rattle.mode.specs.Sums.{sameBytes}
+use Rattle.mode.specs.Under.{enciphers, deciphers}
+use Rattle.mode.proofs.Chunks.{enciphers-blockwise, deciphers-blockwise}
+use Rattle.rounds.proofs.Inverse.{encipher-block, decipher-block, decipher-encipher, encipher-decipher}
+use Rattle.state.specs.Block.{Block}
+use Rattle.tae.specs.Demand2.{Under, image, Accepts, Openable, Demand2}
+use Rattle.tae.specs.Open.{ciphertext, opened, agrees, thenTag, openReport, openAnswer, openBuffer}
+use Rattle.tae.specs.Seal.{sealed, sealOutcome, written}
+use Rattle.tae.specs.declared.open.OpenAnswer.{OpenAnswer}
+use Rattle.tae.specs.declared.open.OpenAnswer.the-variants.{Opened, Refused as OpenRefused}
+use Rattle.tae.proofs.Answers.{open-done}
+use Rattle.tae.proofs.Opened.{opened-long}
+
+-- strings that are compared byte by byte
+same-all : (n : ℕ) (x y : List ℕ) → sameBytes n x y ≡ true → (i : ℕ) → i < n → getD x i 0 ≡ getD y i 0
+same-all zero x y e i h = absurd (omega arith)
+same-all (suc n) x y e i h = last (ℕ-discrete i n) (λ l. same-all n x y (left (sameBytes n x y) (eqb (getD x n 0) (getD y n 0)) e) i l)
+  where
+    left : (a b : Bool) → (a && b) ≡ true → a ≡ true
+    left true b q = refl
+    left false b q = q
+
+    right : (a b : Bool) → (a && b) ≡ true → b ≡ true
+    right true b q = q
+    right false b q = absurd (false≢true q)
+
+    last : Dec (i ≡ n) → (i < n → getD x i 0 ≡ getD y i 0) → getD x i 0 ≡ getD y i 0
+    last (yes p) r = rw p (eqb-true (getD x n 0) (getD y n 0) (right (sameBytes n x y) (eqb (getD x n 0) (getD y n 0)) e))
+    last (no d) r = r (omega arith)
+
+same-equal : (n : ℕ) (x y : List ℕ) → length x ≡ n → length y ≡ n → sameBytes n x y ≡ true → x ≡ y
+same-equal n x y lx ly e = ext-getD 0 x y (lx ∙ sym ly) (λ i h. same-all n x y e i (rw lx at h))
+
+same-refl : (n : ℕ) (x : List ℕ) → sameBytes n x x ≡ true
+same-refl zero x = refl
+same-refl (suc n) x = λ i. same-refl n x i && eq-eqb (getD x n 0) (getD x n 0) refl i
+
+-- an accepted text's length, and one more; 0 for a refusal
+told : OpenAnswer → ℕ
+told (Opened n) = suc n
+told (OpenRefused why) = 0
+
+module _ (u : Under) (key-bytes : Bytes (u .key)) (nonce-bytes : Bytes (u .nonce)) where
+  S : Suite
+  S = record { cipher = u .cipher; steps = u .steps }
+
+  inverse : length (u .key) ≡ 16 → Inverse (enciphers S (u .key)) (deciphers S (u .key))
+  unfolding S
+  inverse l =
+      let k : Block (u .key) = record { long = l; fit = key-bytes .fit } in
+      let c = cipherOf (u .cipher) in
+      record {
+        ahead = λ t b ht hb. encipher-block c (u .steps) (u .key) t k ht b hb;
+        behind = λ t b ht hb. decipher-block c (u .steps) (u .key) t k ht b hb;
+        undo = λ t b ht hb. decipher-encipher c (u .steps) (u .key) t k ht b hb;
+        redo = λ t b ht hb. encipher-decipher c (u .steps) (u .key) t k ht b hb;
+      }
+
+  tag-long : length (u .nonce) ≤ 15 → (x : List ℕ) → length (openingTag (enciphers S (u .key)) (deciphers S (u .key)) (u .nonce) (u .header) x) ≡ 16
+  unfolding S
+  tag-long short x =
+      let e = enciphers S (u .key) in
+      let k = enciphers-blockwise S (u .key) in
+      let y = through (deciphers S (u .key)) e (u .nonce) (length x) 0 x in
+      ap length (openingTag-is e (deciphers S (u .key)) k (u .nonce) short (u .header) (deciphers-blockwise S (u .key)) x)
+      ∙ length-tagFrom e k (u .nonce) short (length x) (checksum y) (headerSum e (u .nonce) (u .header)) (length-checksum y) (length-headerSum e k (u .nonce) short (u .header))
+
+  image-long : length (u .nonce) ≤ 15 → (t : List ℕ) → length (image u t) ≡ length t + 16
+  unfolding S sealed
+  image-long short t = length-sealing (enciphers S (u .key)) (deciphers S (u .key)) (enciphers-blockwise S (u .key)) (u .nonce) short (u .header) t
+
+  module _ (s out : List ℕ) (op : Openable u s out) where
+    A : Bool
+    A = agrees (u .cipher) (u .steps) (u .key) (u .nonce) (u .header) s
+
+    text : List ℕ
+    text = opened (u .cipher) (u .steps) (u .key) (u .nonce) (u .header) s
+
+    p : Passing (u .cipher) (u .steps) (length (u .key)) (length (u .nonce)) (length (u .header)) (length s) (length out)
+    p = open-passed (u .cipher) (u .steps) (length (u .key)) (length (u .nonce)) (length (u .header)) (length s) (length out) op
+
+    answer : openReport (thenTag Done A) (length s - 16) ≡ openAnswer (u .cipher) (u .steps) (u .key) (u .nonce) (u .header) s out
+    unfolding S A
+    answer = open-done S (u .key) (u .nonce) (u .header) s out op .0
+
+    buffer : written (thenTag Done A) text out ≡ openBuffer (u .cipher) (u .steps) (u .key) (u .nonce) (u .header) s out
+    unfolding S A text
+    buffer = open-done S (u .key) (u .nonce) (u .header) s out op .1
+
+    text-long : length text ≡ length s - 16
+    unfolding S text
+    text-long = opened-long S (u .key) (u .nonce) (u .header) s out (p .short) ∙ length-take-le (length s - 16) s (omega arith)
+
+    -- what is accepted agrees in its tag
+    agreed : (t : List ℕ) → Accepts u s out t → (A ≡ true) × (text ≡ t)
+    unfolding told
+    agreed t (a, b) = by A refl
+      where
+        by : (v : Bool) → A ≡ v → (A ≡ true) × (text ≡ t)
+        by true e =
+            let n : length s - 16 ≡ length t = suc-inj (ap told (ap (λ (v : Bool). openReport (thenTag Done v) (length s - 16)) (sym e) ∙ answer ∙ a)) in
+            let both : text ++ drop (length text) out ≡ t ++ drop (length t) out = ap (λ (v : Bool). written (thenTag Done v) text out) (sym e) ∙ buffer ∙ b in
+            (e, sym (take-at text (drop (length text) out) (length t) (text-long ∙ n)) ∙ ap (take (length t)) both ∙ take-at t (drop (length t) out) (length t) refl)
+        by false e =
+            let z : 0 ≡ suc (length t) = ap told (ap (λ (v : Bool). openReport (thenTag Done v) (length s - 16)) (sym e) ∙ answer ∙ a) in
+            absurd (omega arith)
+
+    -- and what agrees is accepted
+    accepted : (t : List ℕ) → A ≡ true → text ≡ t → Accepts u s out t
+    accepted t e q = (
+      sym (ap (λ (v : Bool). openReport (thenTag Done v) (length s - 16)) (sym e) ∙ answer) ∙ ap Opened (sym text-long ∙ ap length q),
+      sym (ap (λ (v : Bool). written (thenTag Done v) text out) (sym e) ∙ buffer) ∙ ap (λ (l : List ℕ). l ++ drop (length l) out) q,
+    )
+
+    image-accepted : (t : List ℕ) → Bytes t → image u t ≡ s → Accepts u s out t
+    unfolding S A text sealed opened agrees
+    image-accepted t bt q =
+        let e = enciphers S (u .key) in
+        let d = deciphers S (u .key) in
+        let o = open-sealed e d (enciphers-blockwise S (u .key)) (deciphers-blockwise S (u .key)) (inverse (p .key)) (u .nonce) (p .short) nonce-bytes (u .header) s t bt q in
+        accepted t (ap (λ (l : List ℕ). sameBytes 16 l (drop (length s - 16) s)) (o .0) ∙ same-refl 16 (drop (length s - 16) s)) (o .1)
+
+    accepted-image : (t : List ℕ) → Bytes s → Accepts u s out t → Bytes t × (image u t ≡ s)
+    unfolding S A text sealed opened agrees
+    accepted-image t bs a =
+        let e = enciphers S (u .key) in
+        let d = deciphers S (u .key) in
+        let tag : openingTag e d (u .nonce) (u .header) (ciphertext s) ≡ drop (length s - 16) s =
+        same-equal 16 (openingTag e d (u .nonce) (u .header) (ciphertext s)) (drop (length s - 16) s) (tag-long (p .short) (ciphertext s)) (length-drop (length s - 16) s ∙ omega (arith, p .long)) (agreed t a .0) in
+        open-exact e d (enciphers-blockwise S (u .key)) (deciphers-blockwise S (u .key)) (inverse (p .key)) (u .nonce) (p .short) nonce-bytes (u .header) s t bs .0 (tag, agreed t a .1)
+
+  image-one : length (u .key) ≡ 16 → length (u .nonce) ≤ 15 → (t₁ t₂ : List ℕ) → Bytes t₁ → Bytes t₂ → image u t₁ ≡ image u t₂ → t₁ ≡ t₂
+  unfolding S sealed
+  image-one l short t₁ t₂ b₁ b₂ q =
+      sealing-one (enciphers S (u .key)) (deciphers S (u .key)) (enciphers-blockwise S (u .key)) (deciphers-blockwise S (u .key)) (inverse l) (u .nonce) short nonce-bytes (u .header) t₁ t₂ b₁ b₂ q
+
+  -- what was sealed can be opened wherever there is room
+  image-openable : (t out room : List ℕ) → sealOutcome (u .cipher) (u .steps) (u .key) (u .nonce) (u .header) t out ≡ Done → length t ≤ length room → Openable u (image u t) room
+  unfolding sealOutcome
+  image-openable t out room done h =
+      let q = seal-passed (u .cipher) (u .steps) (length (u .key)) (length (u .nonce)) (length (u .header)) (length t) (length out) done in
+      let l = image-long (q .short) t in
+      let m : length (image u t) - 16 ≡ length t = omega arith in
+      open-passes (u .cipher) (u .steps) (length (u .key)) (length (u .nonce)) (length (u .header)) (length (image u t)) (length room)
+      (record { suite = q .suite; key = q .key; nonce = q .nonce; short = q .short; header = q .header; long = omega arith; text = rw m (q .text); room = omega arith })
+
+  pub demand2 : Demand2 u
+  demand2 =
+      record {
+        exact = λ s out t bs op. (accepted-image s out op t bs, λ i. image-accepted s out op t (i .0) (i .1));
+        one = λ s out t₁ t₂ op b₁ b₂ q₁ q₂. image-one (p s out op .key) (p s out op .short) t₁ t₂ b₁ b₂ (q₁ ∙ sym q₂);
+        back = λ t out room bt done h. image-accepted (image u t) room (image-openable t out room done h) t bt refl;
+      }

@@ -1,0 +1,5 @@
+pub mod Answers
+pub mod Demand2
+pub mod Opened
+pub mod Sealed
+pub mod Windows

@@ -1,0 +1,66 @@
+-- What `open` and `verify` answer, and what `open` leaves in the output.
+use mathlib.Core.Bool.{Bool}
+use mathlib.Core.List.{List}
+use Prim.Native.Nat.{ℕ, _-_}
+use lib.ListN.{length, getD, take, drop}
+use Rattle.calls.specs.Sealing.{opening, openingTag}
+use Rattle.cipher.specs.declared.refusal.Answer.{Answer}
+use Rattle.cipher.specs.declared.refusal.Answer.the-variants.{Done, Refused}
+use Rattle.cipher.specs.declared.refusal.Refusal.the-variants.{TagDiffers}
+use Rattle.cipher.specs.Suite.{cipherOf}
+use Rattle.limits.specs.Tests.{unless, openTests, verifyTests}
+use Rattle.mode.specs.Sums.{sameBytes}
+use Rattle.rounds.specs.Cipher.{encipher, decipher}
+use Rattle.tae.specs.declared.open.OpenAnswer.{OpenAnswer}
+use Rattle.tae.specs.declared.open.OpenAnswer.the-variants.{Opened, Refused as OpenRefused}
+use Rattle.tae.specs.declared.open.VerifyAnswer.{VerifyAnswer}
+use Rattle.tae.specs.declared.open.VerifyAnswer.the-variants.{Agrees, Refused as VerifyRefused}
+use Rattle.tae.specs.Seal.{written}
+
+-- "Sealed bytes are ciphertext, then tag."
+abbrev pub ciphertext : List ℕ → List ℕ
+ciphertext s = take (length s - 16) s
+
+-- the text of sealed bytes
+unfoldable pub opened : ℕ → ℕ → List ℕ → List ℕ → List ℕ → List ℕ → List ℕ
+opened cipher steps key nonce header s =
+    opening (encipher (cipherOf cipher) steps key) (decipher (cipherOf cipher) steps key) nonce header (ciphertext s)
+
+-- whether the tag that belongs to that text is the one that stands there
+unfoldable pub agrees : ℕ → ℕ → List ℕ → List ℕ → List ℕ → List ℕ → Bool
+agrees cipher steps key nonce header s =
+    sameBytes 16 (openingTag (encipher (cipherOf cipher) steps key) (decipher (cipherOf cipher) steps key) nonce header (ciphertext s)) (drop (length s - 16) s)
+
+-- the tag is looked at where no earlier refusal applies: "tag differs: 8"
+abbrev pub thenTag : Answer → Bool → Answer
+thenTag Done ok = unless ok TagDiffers Done
+thenTag (Refused why) ok = Refused why
+
+-- "Open: 1 to 8."
+unfoldable pub openOutcome : ℕ → ℕ → List ℕ → List ℕ → List ℕ → List ℕ → List ℕ → Answer
+openOutcome cipher steps key nonce header s out =
+    thenTag (openTests cipher steps (length key) (length nonce) (length header) (length s) (length out)) (agrees cipher steps key nonce header s)
+
+-- "open its length"
+abbrev pub openReport : Answer → ℕ → OpenAnswer
+openReport Done len = Opened len
+openReport (Refused why) len = OpenRefused why
+
+unfoldable pub openAnswer : ℕ → ℕ → List ℕ → List ℕ → List ℕ → List ℕ → List ℕ → OpenAnswer
+openAnswer cipher steps key nonce header s out = openReport (openOutcome cipher steps key nonce header s out) (length s - 16)
+
+unfoldable pub openBuffer : ℕ → ℕ → List ℕ → List ℕ → List ℕ → List ℕ → List ℕ → List ℕ
+openBuffer cipher steps key nonce header s out = written (openOutcome cipher steps key nonce header s out) (opened cipher steps key nonce header s) out
+
+-- opening without an output: 1 to 6, then 8
+unfoldable pub verifyOutcome : ℕ → ℕ → List ℕ → List ℕ → List ℕ → List ℕ → Answer
+verifyOutcome cipher steps key nonce header s =
+    thenTag (verifyTests cipher steps (length key) (length nonce) (length header) (length s)) (agrees cipher steps key nonce header s)
+
+-- the first two bytes of the text, 0 for one that is not there
+abbrev pub verifyReport : Answer → List ℕ → VerifyAnswer
+verifyReport Done text = Agrees (getD text 0 0) (getD text 1 0)
+verifyReport (Refused why) text = VerifyRefused why
+
+unfoldable pub verifyAnswer : ℕ → ℕ → List ℕ → List ℕ → List ℕ → List ℕ → VerifyAnswer
+verifyAnswer cipher steps key nonce header s = verifyReport (verifyOutcome cipher steps key nonce header s) (opened cipher steps key nonce header s)

@@ -1,0 +1,70 @@
+// Sealing.
+use cipher::refusal::Answer;
+use cipher::refusal::Refusal;
+use cipher::suite::Suite;
+use tweak::TextBlock;
+ghost use mathlib.Core.Path.{_≡_};
+ghost use mathlib.Core.List.{_++_};
+ghost use Prim.Native.Nat.{_+_, _≤_};
+ghost use lib.ListN.{length, drop};
+ghost use Rattle.mode.specs.Text.{Usable};
+ghost use Rattle.tae.specs.Passes.{Passable};
+ghost use Rattle.tae.specs.Seal.{sealed, sealAnswer, sealBuffer};
+
+// The length of the sealed bytes and the number of cipher calls, or the refusal.
+pub enum SealAnswer {
+    Sealed(usize, usize),
+    Refused(Refusal),
+}
+
+// The sealed bytes at the output's start.
+fn write_sealed(
+    suite: Suite,
+    key: [u8; 16],
+    nonce: &[u8],
+    header: &[u8],
+    text: &[u8],
+    out: &mut [u8],
+)
+    requires { ⌜ Passable suite (now nonce) (now header) × Passable suite (now nonce) (now text) × (length (now text) + 16 ≤ length (now out)) ⌝ }
+    ensures { λ r. ⌜ now (out .exit) ≡ sealed (suite .cipher) (suite .steps) key (now (nonce .entry)) (now (header .entry)) (now (text .entry)) ++ drop (length (now (text .entry)) + 16) (now (out .entry)) ⌝ }
+{
+    let m = text.len();
+    mode::bytes::copy(text, out);
+    mode::text::through(true, suite, key, nonce, m, TextBlock(0), &mut out[..m]);
+    let sum = mode::header::sum(suite, key, nonce, header);
+    let checksum = mode::bytes::add_all([0u8; 16], text);
+    let tag = mode::text::tag(suite, key, nonce, m, checksum, sum);
+    rounds::run::put_at(out, m, tag);
+}
+
+// Ciphertext and tag of the text at the output's start; every other byte stays as it was. Refusals: 1, 2, 3, 4, 6, 7.
+pub fn seal(
+    suite: Suite,
+    key: &[u8],
+    nonce: &[u8],
+    header: &[u8],
+    text: &[u8],
+    out: &mut [u8],
+) -> SealAnswer
+    ensures { λ r. ⌜ (r ≡ sealAnswer (suite .cipher) (suite .steps) (now (key .entry)) (now (nonce .entry)) (now (header .entry)) (now (text .entry)) (now (out .entry))) × (now (out .exit) ≡ sealBuffer (suite .cipher) (suite .steps) (now (key .entry)) (now (nonce .entry)) (now (header .entry)) (now (text .entry)) (now (out .entry))) ⌝ }
+{
+    let a = header.len();
+    let m = text.len();
+    let tested = limits::seal_tests(suite, key.len(), nonce.len(), a, m, out.len());
+    match tested {
+        Answer::Refused(why) => SealAnswer::Refused(why),
+        Answer::Done => {
+            write_sealed(
+                suite,
+                rounds::run::block_at(key, 0),
+                nonce,
+                header,
+                text,
+                out,
+            );
+            let count = crate::counts::blocks_of(a) + crate::counts::blocks_of(m) + 1;
+            SealAnswer::Sealed(m + 16, count)
+        }
+    }
+}

@@ -1,0 +1,103 @@
+// Block numbers, and the tweaks of a sealing's cipher calls. Each public function serves the crates above, which have tested the
+// nonce's length and the limits.
+ghost use mathlib.Core.Path.{_≡_};
+ghost use mathlib.Core.List.{_++_};
+ghost use Prim.Native.Nat.{_+_, _-_, _*_, _%_, _^_, _<_, _≤_};
+ghost use lib.ListN.{length, take, drop, replicate};
+ghost use Rattle.bits.specs.Bytes.{bigEndian};
+ghost use Rattle.rounds.specs.Blocks.{strung};
+ghost use Rattle.calls.specs.Tweak.{tweak, textTweak, headerTweak, specialTweak};
+
+// The number of a text block, from 0.
+pub struct TextBlock(pub u64);
+
+// The number of a header block, from 0: a count of its own.
+pub struct HeaderBlock(pub u64);
+
+// The nonce, then zeros.
+fn based(nonce: &[u8]) -> [u8; 16]
+    requires { ⌜ length (now nonce) ≤ 15 ⌝ }
+    ensures { λ r. ⌜ r ≡ now (nonce .entry) ++ replicate (16 - length (now (nonce .entry))) 0 ⌝ }
+{
+    let n = nonce.len();
+    let mut t = [0u8; 16];
+    let mut i: usize = 0;
+    while i < n {
+        t[i] = nonce[i];
+        i += 1;
+    }
+    t
+}
+
+// A number in all bytes from n on.
+fn numbered(base: [u8; 16], n: usize, number: u64) -> [u8; 16]
+    requires { ⌜ n ≤ 15 ⌝ }
+    ensures { λ r. ⌜ r ≡ take n base ++ bigEndian (16 - n) number ⌝ }
+{
+    let mut t = base;
+    let mut x = number;
+    let mut i: usize = 16;
+    while n < i {
+        i -= 1;
+        t[i] = (x % 256) as u8;
+        x = x / 256;
+    }
+    t
+}
+
+fn sum(a: u8, b: u8) -> u8
+    ensures { λ r. ⌜ r ≡ (a + b) % 256 ⌝ }
+{
+    (((a as u16) + (b as u16)) % 256) as u8
+}
+
+// A number in all bytes from n on, and a mark added in the first of these.
+fn marked(base: [u8; 16], n: usize, mark: u8, number: u64) -> [u8; 16]
+    requires { ⌜ n ≤ 15 ⌝ }
+    ensures { λ r. ⌜ r ≡ take n base ++ bigEndian (16 - n) (mark * 256 ^ (15 - n) + number) ⌝ }
+{
+    let mut t = numbered(base, n, number);
+    let first = sum(mark, t[n]);
+    t[n] = first;
+    t
+}
+
+// The tweaks of k numbers from `first` on, one behind the other.
+fn fill(nonce: &[u8], mark: u8, first: u64, k: usize, tweaks: &mut [u8])
+    requires { ⌜ (length (now nonce) ≤ 15) × (16 * k ≤ length (now tweaks)) × (first + k < 2 ^ 64) ⌝ }
+    ensures { λ r. ⌜ now (tweaks .exit) ≡ strung k (λ i. tweak (now (nonce .entry)) mark (first + i)) ++ drop (16 * k) (now (tweaks .entry)) ⌝ }
+{
+    let base = based(nonce);
+    let n = nonce.len();
+    let mut i: usize = 0;
+    while i < k {
+        rounds::run::put_at(tweaks, 16 * i, marked(base, n, mark, first + (i as u64)));
+        i += 1;
+    }
+}
+
+// The tweaks of k text blocks that are not last, from `first` on, one behind the other.
+pub fn text_tweaks(nonce: &[u8], first: TextBlock, k: usize, tweaks: &mut [u8])
+    requires { ⌜ (length (now nonce) ≤ 15) × (16 * k ≤ length (now tweaks)) × (first .0 + k < 2 ^ 64) ⌝ }
+    ensures { λ r. ⌜ now (tweaks .exit) ≡ strung k (λ i. textTweak (now (nonce .entry)) (first .0 + i)) ++ drop (16 * k) (now (tweaks .entry)) ⌝ }
+{
+    let number = first.0;
+    fill(nonce, 0x00, number, k, tweaks);
+}
+
+// The tweaks of k header blocks that are not last, from `first` on, one behind the other.
+pub fn header_tweaks(nonce: &[u8], first: HeaderBlock, k: usize, tweaks: &mut [u8])
+    requires { ⌜ (length (now nonce) ≤ 15) × (16 * k ≤ length (now tweaks)) × (first .0 + k < 2 ^ 64) ⌝ }
+    ensures { λ r. ⌜ now (tweaks .exit) ≡ strung k (λ i. headerTweak (now (nonce .entry)) (first .0 + i)) ++ drop (16 * k) (now (tweaks .entry)) ⌝ }
+{
+    let number = first.0;
+    fill(nonce, 0x80, number, k, tweaks);
+}
+
+// A special tweak: the nonce, one byte, then zeros.
+pub fn special_tweak(nonce: &[u8], byte: u8) -> [u8; 16]
+    requires { ⌜ length (now nonce) ≤ 15 ⌝ }
+    ensures { λ r. ⌜ r ≡ specialTweak (now (nonce .entry)) byte ⌝ }
+{
+    marked(based(nonce), nonce.len(), byte, 0)
+}
