@@ -1,4 +1,5 @@
-//! A second implementation of the tweakable block ciphers Scream and iScream (CAESAR version 1).
+//! A second implementation of the tweakable block ciphers Scream and iScream (CAESAR version 1), and of the
+//! sealing mode over them.
 //!
 //! It is written from the paper's tables, on columns and rows as the paper draws them, and is
 //! never fast: it is there to be read, and to hold other implementations against.
@@ -6,6 +7,7 @@
 pub mod boxes;
 pub mod cipher;
 pub mod random;
+pub mod sealing;
 pub mod state;
 pub mod tables;
 pub mod tweakey;

@@ -37,7 +37,101 @@ pub fn cipher_vectors() -> Vec<CipherVector> {
     vectors
 }
 
-/// The bytes of a text of two hex digits each.
+/// A line of seal.txt.
+pub struct SealVector {
+    /// The line's number in the file, from 1.
+    pub line: usize,
+    pub cipher: u8,
+    pub steps: u8,
+    pub key: Block,
+    pub nonce: Vec<u8>,
+    pub header: Vec<u8>,
+    pub text: Vec<u8>,
+    pub sealed: Vec<u8>,
+    pub calls: usize,
+}
+
+/// Every line of seal.txt but the comments: suite, key, nonce, header, text and sealed bytes in hex,
+/// and the number of calls.
+pub fn seal_vectors() -> Vec<SealVector> {
+    let mut vectors = Vec::new();
+    for (i, line) in include_str!("../../vectors/seal.txt").lines().enumerate() {
+        if line.starts_with('#') {
+            continue;
+        }
+        let fields: Vec<&str> = line.split(' ').collect();
+        assert_eq!(fields.len(), 7, "seal.txt, line {}", i + 1);
+        let [cipher, steps] = hex(fields[0]);
+        vectors.push(SealVector {
+            line: i + 1,
+            cipher,
+            steps,
+            key: hex(fields[1]),
+            nonce: bytes(fields[2]),
+            header: bytes(fields[3]),
+            text: bytes(fields[4]),
+            sealed: bytes(fields[5]),
+            calls: fields[6].parse().expect(fields[6]),
+        });
+    }
+    vectors
+}
+
+/// A line of open.txt.
+pub struct OpenVector {
+    /// The line's number in the file, from 1.
+    pub line: usize,
+    pub cipher: u8,
+    pub steps: u8,
+    pub key: Block,
+    pub nonce: Vec<u8>,
+    pub header: Vec<u8>,
+    pub sealed: Vec<u8>,
+    /// The text, or the refusal's number.
+    pub answer: Result<Vec<u8>, u32>,
+}
+
+/// Every line of open.txt but the comments: suite, key, nonce, header, sealed bytes and text in hex,
+/// or `refused:` and a number in place of the text.
+pub fn open_vectors() -> Vec<OpenVector> {
+    let mut vectors = Vec::new();
+    for (i, line) in include_str!("../../vectors/open.txt").lines().enumerate() {
+        if line.starts_with('#') {
+            continue;
+        }
+        let fields: Vec<&str> = line.split(' ').collect();
+        assert_eq!(fields.len(), 6, "open.txt, line {}", i + 1);
+        let [cipher, steps] = hex(fields[0]);
+        vectors.push(OpenVector {
+            line: i + 1,
+            cipher,
+            steps,
+            key: hex(fields[1]),
+            nonce: bytes(fields[2]),
+            header: bytes(fields[3]),
+            sealed: bytes(fields[4]),
+            answer: match fields[5].strip_prefix("refused:") {
+                Some(number) => Err(number.parse().expect(number)),
+                None => Ok(bytes(fields[5])),
+            },
+        });
+    }
+    vectors
+}
+
+/// The bytes of a text of two hex digits each; `-` has none.
+fn bytes(text: &str) -> Vec<u8> {
+    if text == "-" {
+        return Vec::new();
+    }
+    assert!(text.len() % 2 == 0, "{text}");
+    let digits = (0..text.len()).step_by(2).map(|i| &text[i..i + 2]);
+    digits
+        .map(|two| u8::from_str_radix(two, 16).expect(text))
+        .collect()
+}
+
+/// The bytes of a text of two hex digits each, so many.
 fn hex<const N: usize>(text: &str) -> [u8; N] {
     assert_eq!(text.len(), 2 * N, "{text}");
     std::array::from_fn(|i| u8::from_str_radix(&text[2 * i..2 * i + 2], 16).expect(text))
