@@ -36,4 +36,37 @@ extern "C" {
         blocks: *mut u8,
         blocks_len: usize,
     ) -> u32;
+
+    pub fn sb_seal(
+        cipher: u8,
+        steps: u8,
+        key: *const u8,
+        key_len: usize,
+        nonce: *const u8,
+        nonce_len: usize,
+        header: *const u8,
+        header_len: usize,
+        text: *const u8,
+        text_len: usize,
+        out: *mut u8,
+        out_len: usize,
+        len: *mut u64,
+        calls: *mut u64,
+    ) -> u32;
+
+    pub fn sb_open(
+        cipher: u8,
+        steps: u8,
+        key: *const u8,
+        key_len: usize,
+        nonce: *const u8,
+        nonce_len: usize,
+        header: *const u8,
+        header_len: usize,
+        sealed: *const u8,
+        sealed_len: usize,
+        out: *mut u8,
+        out_len: usize,
+        len: *mut u64,
+    ) -> u32;
 }
