@@ -38,6 +38,13 @@ fn client_in_c() {
     let iscream = reference::cipher::encipher(2, 12, &zero, &zero, &zero).expect("a listed suite");
     let zeros = hex(&[0; 40]);
     let blocks = format!("{0}{0}{1}", hex(&iscream), hex(&[0; 8]));
+    let seal = |suite: (u8, u8), nonce: &[u8], header: &[u8], text: &[u8]| {
+        let sealed = reference::sealing::seal(suite.0, suite.1, &zero, nonce, header, text, 36);
+        hex(&sealed.expect("within the limits").0)
+    };
+    let sealed = seal((1, 10), &[0; 12], &[0; 5], &[0; 20]) + &hex(&[0; 4]);
+    let opened = hex(&[0; 20]) + &hex(&[0xFF; 4]);
+    let untouched = hex(&[0xFF; 24]);
     let expected = [
         format!("encipher 0 {}", hex(&scream)),
         format!("decipher 0 {}", hex(&zero)),
@@ -47,6 +54,19 @@ fn client_in_c() {
         format!("refused 1 {zeros}"),
         "empty 0 ".to_string(),
         "empty 0 ".to_string(),
+        format!("seal 0 {sealed}"),
+        "len 36 calls 4".to_string(),
+        format!("open 0 {opened}"),
+        "len 20".to_string(),
+        format!("key 2 {zeros}"),
+        "len 7 calls 8".to_string(),
+        format!("tag 8 {untouched}"),
+        "len 7".to_string(),
+        format!("seal 0 {}", seal((2, 12), &[0], &[], &[])),
+        "len 16 calls 1".to_string(),
+        "open 0 ".to_string(),
+        "len 0".to_string(),
+        "none 2 ".to_string(),
     ];
     let text = String::from_utf8(output.stdout).expect("text");
     assert_eq!(text.lines().collect::<Vec<_>>(), expected);

@@ -1,9 +1,11 @@
-//! The library and the reference against every line of cipher.txt, in both directions.
+//! The library and the reference against every line of cipher.txt, in both directions, and the library
+//! against every line of seal.txt and open.txt.
 
 mod common;
 
+use common::sealing::Given;
 use common::Direction::{Decipher, Encipher};
-use reference::vectors::cipher_vectors;
+use reference::vectors::{cipher_vectors, open_vectors, seal_vectors};
 
 #[test]
 fn cipher_vectors_hold() {
@@ -26,6 +28,51 @@ fn cipher_vectors_hold() {
             let mut blocks = from;
             let answer = direction.library_blocks(suite, &v.key, &v.tweak, &mut blocks);
             assert_eq!((answer, blocks), (Ok(()), to), "library's blocks, {name}");
+        }
+    }
+}
+
+#[test]
+fn seal_vectors_hold() {
+    let vectors = seal_vectors();
+    assert_eq!(vectors.len(), 197);
+    for v in vectors {
+        let name = format!("line {}", v.line);
+        let (text_len, sealed_len) = (v.text.len(), v.sealed.len());
+        let given = Given {
+            suite: (v.cipher, v.steps),
+            key: v.key.to_vec(),
+            nonce: v.nonce,
+            header: v.header,
+            body: v.text.clone(),
+        };
+        let answer = Ok((v.sealed.clone(), v.calls));
+        given.seal_gives(sealed_len, &answer, &name);
+        given.seal_gives(sealed_len + 9, &answer, &name);
+        given.seal_gives(sealed_len - 1, &Err(7), &name);
+        let given = given.with_body(v.sealed);
+        given.open_gives(text_len, &Ok(v.text), &name);
+    }
+}
+
+#[test]
+fn open_vectors_hold() {
+    let vectors = open_vectors();
+    assert_eq!(vectors.len(), 144);
+    for v in vectors {
+        let name = format!("line {}", v.line);
+        let len = v.sealed.len().saturating_sub(16);
+        let given = Given {
+            suite: (v.cipher, v.steps),
+            key: v.key.to_vec(),
+            nonce: v.nonce,
+            header: v.header,
+            body: v.sealed,
+        };
+        given.open_gives(len, &v.answer, &name);
+        given.open_gives(len + 9, &v.answer, &name);
+        if len > 0 {
+            given.open_gives(len - 1, &Err(7), &name);
         }
     }
 }

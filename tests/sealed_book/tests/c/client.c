@@ -25,5 +25,41 @@ int main(void) {
     /* nothing to do, and nothing lent */
     print("empty", sb_encipher_blocks(SB_SCREAM, 10, key, NULL, 0, NULL, 0), NULL, 0);
     print("empty", sb_decipher_blocks(SB_SCREAM, 10, key, NULL, 0, NULL, 0), NULL, 0);
+
+    /* a header of 5 bytes and a text of 20, into outputs with 4 bytes to spare */
+    uint8_t nonce[12] = {0}, header[5] = {0}, text[20] = {0}, sealed[40] = {0}, opened[24];
+    uint64_t len = 7, calls = 8;
+    uint32_t returned = sb_seal(SB_SCREAM, 10, key, sizeof key, nonce, sizeof nonce, header, sizeof header,
+                                text, sizeof text, sealed, sizeof sealed, &len, &calls);
+    print("seal", returned, sealed, sizeof sealed);
+    printf("len %u calls %u\n", (unsigned)len, (unsigned)calls);
+    memset(opened, 0xFF, sizeof opened);
+    returned = sb_open(SB_SCREAM, 10, key, sizeof key, nonce, sizeof nonce, header, sizeof header,
+                       sealed, 36, opened, sizeof opened, &len);
+    print("open", returned, opened, sizeof opened);
+    printf("len %u\n", (unsigned)len);
+
+    /* refused: a key of 15 bytes, and a changed tag */
+    len = 7, calls = 8;
+    returned = sb_seal(SB_SCREAM, 10, key, 15, nonce, sizeof nonce, header, sizeof header,
+                       text, sizeof text, blocks, sizeof blocks, &len, &calls);
+    print("key", returned, blocks, sizeof blocks);
+    printf("len %u calls %u\n", (unsigned)len, (unsigned)calls);
+    sealed[35] ^= 1;
+    memset(opened, 0xFF, sizeof opened);
+    returned = sb_open(SB_SCREAM, 10, key, sizeof key, nonce, sizeof nonce, header, sizeof header,
+                       sealed, 36, opened, sizeof opened, &len);
+    print("tag", returned, opened, sizeof opened);
+    printf("len %u\n", (unsigned)len);
+
+    /* no header and no text, and no output for the text */
+    returned = sb_seal(SB_ISCREAM, 12, key, sizeof key, nonce, 1, NULL, 0, NULL, 0, sealed, 16, &len, &calls);
+    print("seal", returned, sealed, 16);
+    printf("len %u calls %u\n", (unsigned)len, (unsigned)calls);
+    returned = sb_open(SB_ISCREAM, 12, key, sizeof key, nonce, 1, NULL, 0, sealed, 16, NULL, 0, &len);
+    print("open", returned, NULL, 0);
+    printf("len %u\n", (unsigned)len);
+    returned = sb_seal(SB_ISCREAM, 12, NULL, 0, NULL, 0, NULL, 0, NULL, 0, NULL, 0, &len, &calls);
+    print("none", returned, NULL, 0);
     return 0;
 }

@@ -3,6 +3,8 @@
 // Each test file uses a part of this.
 #![allow(dead_code)]
 
+pub mod sealing;
+
 use sealed_book::Refusal;
 
 pub type Block = [u8; 16];

@@ -1,0 +1,268 @@
+//! Sealing and opening in the library, with every byte and number that it leaves compared.
+
+use std::hint::black_box;
+
+use reference::random::Random;
+use reference::sealing;
+use sealed_book::foreign::{sb_open, sb_seal};
+use sealed_book::{Refusal, Sealed};
+
+/// Bytes before and after the output that a call must leave as they are.
+const GUARD: usize = 32;
+
+/// The numbers that a call finds, and leaves where it refuses.
+const LEN: u64 = 0x0123_4567_89AB_CDEF;
+const CALLS: u64 = 0xFEDC_BA98_7654_3210;
+
+/// The sealed bytes and the calls, or a refusal's number.
+pub type SealAnswer = Result<(Vec<u8>, usize), u32>;
+
+/// The text, or a refusal's number.
+pub type OpenAnswer = Result<Vec<u8>, u32>;
+
+/// What a call is given to read; the body is a text to seal, or sealed bytes to open.
+#[derive(Clone, PartialEq)]
+pub struct Given {
+    pub suite: (u8, u8),
+    pub key: Vec<u8>,
+    pub nonce: Vec<u8>,
+    pub header: Vec<u8>,
+    pub body: Vec<u8>,
+}
+
+/// So many random bytes.
+pub fn some_bytes(random: &mut Random, len: usize) -> Vec<u8> {
+    let mut bytes = vec![0; len];
+    random.fill(&mut bytes);
+    bytes
+}
+
+impl Given {
+    /// Random bytes of these lengths, and a key of 16.
+    pub fn random(
+        random: &mut Random,
+        suite: (u8, u8),
+        nonce_len: usize,
+        header_len: usize,
+        body_len: usize,
+    ) -> Given {
+        Given {
+            suite,
+            key: some_bytes(random, 16),
+            nonce: some_bytes(random, nonce_len),
+            header: some_bytes(random, header_len),
+            body: some_bytes(random, body_len),
+        }
+    }
+
+    /// The same with another body.
+    pub fn with_body(&self, body: Vec<u8>) -> Given {
+        Given {
+            body,
+            ..self.clone()
+        }
+    }
+
+    /// What the reference answers to sealing.
+    pub fn seal_answer(&self, out_len: usize) -> SealAnswer {
+        let ((cipher, steps), key, nonce) = (self.suite, &self.key, &self.nonce);
+        sealing::seal(cipher, steps, key, nonce, &self.header, &self.body, out_len)
+    }
+
+    /// What the reference answers to opening.
+    pub fn open_answer(&self, out_len: usize) -> OpenAnswer {
+        let ((cipher, steps), key, nonce) = (self.suite, &self.key, &self.nonce);
+        sealing::open(cipher, steps, key, nonce, &self.header, &self.body, out_len)
+    }
+
+    /// Seals by the library into an output of this length, and holds all that is left to the answer.
+    pub fn seal_gives(&self, out_len: usize, answer: &SealAnswer, name: &str) {
+        let name = self.name("seal", out_len, name);
+        let mut lent = self.clone();
+        let (number, result, expected) = match answer {
+            Ok((sealed, calls)) => {
+                let calls = *calls as u64;
+                let len = sealed.len();
+                (0, &sealed[..], Ok(Sealed { len, calls }))
+            }
+            Err(number) => (*number, &[][..], Err(refusal(*number))),
+        };
+
+        let mut out = Output::new(out_len);
+        let (mut len, mut calls) = (LEN, CALLS);
+        let slice = out.slice();
+        // SAFETY: each slice is given with its length.
+        let returned = unsafe {
+            sb_seal(
+                lent.suite.0,
+                lent.suite.1,
+                lent.key.as_ptr(),
+                lent.key.len(),
+                lent.nonce.as_ptr(),
+                lent.nonce.len(),
+                lent.header.as_ptr(),
+                lent.header.len(),
+                lent.body.as_ptr(),
+                lent.body.len(),
+                slice.as_mut_ptr(),
+                slice.len(),
+                &mut len,
+                &mut calls,
+            )
+        };
+        let numbers = match &expected {
+            Ok(sealed) => (sealed.len as u64, sealed.calls),
+            Err(_) => (LEN, CALLS),
+        };
+        assert_eq!(returned, number, "{name}");
+        assert_eq!((len, calls), numbers, "length and calls, {name}");
+        out.assert_begins_with(result, &name);
+
+        let mut out = Output::new(out_len);
+        let (cipher, steps) = self.suite;
+        let returned = sealed_book::seal(
+            cipher,
+            steps,
+            &lent.key,
+            &lent.nonce,
+            &lent.header,
+            &lent.body,
+            out.slice(),
+        );
+        assert_eq!(returned, expected, "{name}");
+        out.assert_begins_with(result, &name);
+        black_box(&mut lent);
+        assert!(lent == *self, "what is lent to be read is changed: {name}");
+    }
+
+    /// Opens by the library into an output of this length, and holds all that is left to the answer.
+    pub fn open_gives(&self, out_len: usize, answer: &OpenAnswer, name: &str) {
+        let name = self.name("open", out_len, name);
+        let mut lent = self.clone();
+        let (number, result, expected) = match answer {
+            Ok(text) => (0, &text[..], Ok(text.len())),
+            Err(number) => (*number, &[][..], Err(refusal(*number))),
+        };
+
+        let mut out = Output::new(out_len);
+        let mut len = LEN;
+        let slice = out.slice();
+        // SAFETY: each slice is given with its length.
+        let returned = unsafe {
+            sb_open(
+                lent.suite.0,
+                lent.suite.1,
+                lent.key.as_ptr(),
+                lent.key.len(),
+                lent.nonce.as_ptr(),
+                lent.nonce.len(),
+                lent.header.as_ptr(),
+                lent.header.len(),
+                lent.body.as_ptr(),
+                lent.body.len(),
+                slice.as_mut_ptr(),
+                slice.len(),
+                &mut len,
+            )
+        };
+        assert_eq!(returned, number, "{name}");
+        assert_eq!(
+            len,
+            expected.map_or(LEN, |len| len as u64),
+            "length, {name}"
+        );
+        out.assert_begins_with(result, &name);
+
+        let mut out = Output::new(out_len);
+        let (cipher, steps) = self.suite;
+        let returned = sealed_book::open(
+            cipher,
+            steps,
+            &lent.key,
+            &lent.nonce,
+            &lent.header,
+            &lent.body,
+            out.slice(),
+        );
+        assert_eq!(returned, expected, "{name}");
+        out.assert_begins_with(result, &name);
+        black_box(&mut lent);
+        assert!(lent == *self, "what is lent to be read is changed: {name}");
+    }
+
+    /// Seals as the reference does and opens again, into outputs that are just long enough, longer,
+    /// and too short; returns the sealed bytes with the rest.
+    pub fn there_and_back(&self, name: &str) -> Given {
+        let len = self.body.len();
+        let answer = self.seal_answer(len + 16);
+        let (sealed, _) = answer.as_ref().expect(name);
+        self.seal_gives(len + 16, &answer, name);
+        self.seal_gives(len + 16 + 37, &answer, name);
+        self.seal_gives(len + 15, &Err(7), name);
+
+        let given = self.with_body(sealed.clone());
+        let answer = Ok(self.body.clone());
+        given.open_gives(len, &answer, name);
+        given.open_gives(len + 37, &answer, name);
+        if len > 0 {
+            given.open_gives(len - 1, &Err(7), name);
+        }
+        given
+    }
+
+    fn name(&self, call: &str, out_len: usize, name: &str) -> String {
+        let Given {
+            suite,
+            key,
+            nonce,
+            header,
+            body,
+        } = self;
+        format!(
+            "{call}, suite {suite:?}, key {}, nonce {}, header {}, body {}, output {out_len} bytes, {name}",
+            key.len(),
+            nonce.len(),
+            header.len(),
+            body.len()
+        )
+    }
+}
+
+/// The refusal of a number that the reference gave.
+fn refusal(number: u32) -> Refusal {
+    Refusal::from_number(number).expect("a refusal's number")
+}
+
+/// An output with guards around it, filled with bytes that are known.
+struct Output {
+    bytes: Vec<u8>,
+}
+
+impl Output {
+    fn new(len: usize) -> Output {
+        let bytes = (0..len + 2 * GUARD).map(filler).collect();
+        Output { bytes }
+    }
+
+    fn slice(&mut self) -> &mut [u8] {
+        let end = self.bytes.len() - GUARD;
+        &mut self.bytes[GUARD..end]
+    }
+
+    /// The result stands at the start; all after it, and the guards, are as they were.
+    fn assert_begins_with(&self, result: &[u8], name: &str) {
+        for (i, byte) in self.bytes.iter().enumerate() {
+            let in_result = i.checked_sub(GUARD).and_then(|i| result.get(i));
+            let expected = in_result.copied().unwrap_or_else(|| filler(i));
+            if *byte != expected {
+                let at = i as isize - GUARD as isize;
+                panic!("output byte {at} is {byte:02X}, not {expected:02X}: {name}");
+            }
+        }
+    }
+}
+
+/// What byte i of an output and its guards is before a call.
+fn filler(i: usize) -> u8 {
+    ((i as u64 + 1).wrapping_mul(0x9E37_79B9_7F4A_7C15) >> 56) as u8
+}
