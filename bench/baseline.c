@@ -1,5 +1,6 @@
 /*
- * Scream and iScream (CAESAR version 1) in C, one block at a time: the yardstick of the benchmark.
+ * Scream and iScream (CAESAR version 1) in C, one block at a time, and sealing over them: the
+ * yardstick of the benchmark.
  *
  * The S-boxes are bitsliced on the eight rows (Algorithms 3 and 4, and 5 with its round corrected).
  * The L-boxes go by two tables of 256 words each, one for each byte of a row. Four byte tables, as
@@ -10,6 +11,7 @@
 
 #include <stddef.h>
 #include <stdint.h>
+#include <stdlib.h>
 #include <string.h>
 
 #if __BYTE_ORDER__ != __ORDER_LITTLE_ENDIAN__
@@ -353,4 +355,182 @@ uint32_t baseline_decipher_blocks(uint8_t cipher, uint8_t steps, const uint8_t *
         for (size_t i = 0; i < count; i++)
             decipher_block(ISCREAM, steps, key, tweaks + 16 * i, blocks + 16 * i);
     return 0;
+}
+
+/* ---- Sealing ---- */
+
+/* The nonce, then a first bit or two and a number, big-endian to the last byte. */
+INLINE void set_number(uint8_t tweak[16], size_t n, uint8_t first, size_t number)
+{
+    for (size_t i = 15; i >= n; i--) {
+        tweak[i] = (uint8_t)number;
+        number >>= 8;
+    }
+    tweak[n] |= first;
+}
+
+/* The nonce, then a byte, then zeros. */
+INLINE void set_special(uint8_t tweak[16], size_t n, uint8_t byte)
+{
+    memset(tweak + n, 0, 16 - n);
+    tweak[n] = byte;
+}
+
+INLINE void add_block(uint8_t to[16], const uint8_t *from)
+{
+    for (int i = 0; i < 16; i++)
+        to[i] ^= from[i];
+}
+
+/* Adds the enciphered header blocks to the tag. */
+INLINE void add_header(int cipher, int steps, const uint8_t *key, uint8_t tweak[16], size_t n,
+                       const uint8_t *header, size_t len, uint8_t tag[16])
+{
+    for (size_t at = 0; at < len; at += 16) {
+        uint8_t block[16] = {0};
+        size_t rest = len - at;
+        memcpy(block, header + at, rest < 16 ? rest : 16);
+        if (rest > 16) {
+            set_number(tweak, n, 0x80, at / 16);
+        } else if (rest == 16) {
+            set_special(tweak, n, 0xD0);
+        } else {
+            block[rest] = 0x80;
+            set_special(tweak, n, 0xD8);
+        }
+        encipher_block(cipher, steps, key, tweak, block);
+        add_block(tag, block);
+    }
+}
+
+/* The last text block, either way: `len` bytes of 1 to 16 with the enciphered length added. */
+INLINE void last_block(int cipher, int steps, const uint8_t *key, uint8_t tweak[16], size_t n,
+                       const uint8_t *from, uint8_t *to, size_t len)
+{
+    uint8_t block[16] = {0};
+    block[15] = (uint8_t)(8 * len);
+    set_special(tweak, n, len == 16 ? 0xC0 : 0xC8);
+    encipher_block(cipher, steps, key, tweak, block);
+    for (size_t i = 0; i < len; i++)
+        to[i] = from[i] ^ block[i];
+}
+
+/* Adds the enciphered checksum of a text of `len` bytes to the tag. */
+INLINE void add_checksum(int cipher, int steps, const uint8_t *key, uint8_t tweak[16], size_t n,
+                         uint8_t checksum[16], size_t len, uint8_t tag[16])
+{
+    set_special(tweak, n, len > 0 && len % 16 == 0 ? 0xE0 : 0xE8);
+    encipher_block(cipher, steps, key, tweak, checksum);
+    add_block(tag, checksum);
+}
+
+INLINE void seal(int cipher, int steps, const uint8_t *key, const uint8_t *nonce, size_t n,
+                 const uint8_t *header, size_t header_len, const uint8_t *text, size_t len,
+                 uint8_t *out)
+{
+    uint8_t tweak[16], checksum[16] = {0}, tag[16] = {0};
+    size_t at = 0;
+    memcpy(tweak, nonce, n);
+    add_header(cipher, steps, key, tweak, n, header, header_len, tag);
+    for (; len - at > 16; at += 16) {
+        memcpy(out + at, text + at, 16);
+        add_block(checksum, text + at);
+        set_number(tweak, n, 0, at / 16);
+        encipher_block(cipher, steps, key, tweak, out + at);
+    }
+    if (len > at) {
+        for (size_t i = at; i < len; i++)
+            checksum[i - at] ^= text[i];
+        last_block(cipher, steps, key, tweak, n, text + at, out + at, len - at);
+    }
+    add_checksum(cipher, steps, key, tweak, n, checksum, len, tag);
+    memcpy(out + len, tag, 16);
+}
+
+/* Writes the text of `len` bytes; returns whether the tag after the ciphertext is its tag. */
+INLINE int unseal(int cipher, int steps, const uint8_t *key, const uint8_t *nonce, size_t n,
+                  const uint8_t *header, size_t header_len, const uint8_t *sealed, size_t len,
+                  uint8_t *text)
+{
+    uint8_t tweak[16], checksum[16] = {0}, tag[16] = {0};
+    size_t at = 0;
+    memcpy(tweak, nonce, n);
+    for (; len - at > 16; at += 16) {
+        memcpy(text + at, sealed + at, 16);
+        set_number(tweak, n, 0, at / 16);
+        decipher_block(cipher, steps, key, tweak, text + at);
+        add_block(checksum, text + at);
+    }
+    if (len > at) {
+        last_block(cipher, steps, key, tweak, n, sealed + at, text + at, len - at);
+        for (size_t i = at; i < len; i++)
+            checksum[i - at] ^= text[i];
+    }
+    add_header(cipher, steps, key, tweak, n, header, header_len, tag);
+    add_checksum(cipher, steps, key, tweak, n, checksum, len, tag);
+    return memcmp(tag, sealed + len, 16) == 0;
+}
+
+static size_t limit(size_t exponent)
+{
+    return (size_t)1 << (exponent < 24 ? exponent : 24);
+}
+
+/* Refusals 1 to 4. */
+static uint32_t refused(uint8_t cipher, uint8_t steps, size_t key_len, size_t n, size_t header_len)
+{
+    if (!listed(cipher, steps))
+        return 1;
+    if (key_len != 16)
+        return 2;
+    if (n < 1 || n > 15)
+        return 3;
+    return header_len > limit(130 - 8 * n) ? 4 : 0;
+}
+
+/* Seals the text to `text_len` + 16 bytes of output. Returns 0, or the refusal's number. */
+uint32_t baseline_seal(uint8_t cipher, uint8_t steps, const uint8_t *key, size_t key_len,
+                       const uint8_t *nonce, size_t n, const uint8_t *header, size_t header_len,
+                       const uint8_t *text, size_t text_len, uint8_t *out, size_t out_len)
+{
+    uint32_t number = refused(cipher, steps, key_len, n, header_len);
+    if (number != 0)
+        return number;
+    if (text_len > limit(131 - 8 * n))
+        return 6;
+    if (out_len < text_len + 16)
+        return 7;
+    if (cipher == SCREAM)
+        seal(SCREAM, steps, key, nonce, n, header, header_len, text, text_len, out);
+    else
+        seal(ISCREAM, steps, key, nonce, n, header, header_len, text, text_len, out);
+    return 0;
+}
+
+/* Opens to `sealed_len` - 16 bytes of output, by way of a buffer, so that a refusal leaves the
+ * output as it was and each block is deciphered once. Returns 0, or the refusal's number. */
+uint32_t baseline_open(uint8_t cipher, uint8_t steps, const uint8_t *key, size_t key_len,
+                       const uint8_t *nonce, size_t n, const uint8_t *header, size_t header_len,
+                       const uint8_t *sealed, size_t sealed_len, uint8_t *out, size_t out_len)
+{
+    uint32_t number = refused(cipher, steps, key_len, n, header_len);
+    if (number != 0)
+        return number;
+    if (sealed_len < 16)
+        return 5;
+    size_t len = sealed_len - 16;
+    if (len > limit(131 - 8 * n))
+        return 6;
+    if (out_len < len)
+        return 7;
+    uint8_t *text = malloc(len + 1);
+    if (text == NULL)
+        abort();
+    int same = cipher == SCREAM
+        ? unseal(SCREAM, steps, key, nonce, n, header, header_len, sealed, len, text)
+        : unseal(ISCREAM, steps, key, nonce, n, header, header_len, sealed, len, text);
+    if (same)
+        memcpy(out, text, len);
+    free(text);
+    return same ? 0 : 8;
 }

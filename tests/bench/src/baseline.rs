@@ -1,4 +1,5 @@
-//! A safe wrapper over bench/baseline.c. Each function says whether the suite is listed.
+//! A safe wrapper over bench/baseline.c. The functions on blocks say whether the suite is listed;
+//! sealing and opening return a refusal's number.
 
 extern "C" {
     fn baseline_encipher(
@@ -33,6 +34,36 @@ extern "C" {
         tweaks: *const u8,
         blocks: *mut u8,
         count: usize,
+    ) -> u32;
+
+    fn baseline_seal(
+        cipher: u8,
+        steps: u8,
+        key: *const u8,
+        key_len: usize,
+        nonce: *const u8,
+        nonce_len: usize,
+        header: *const u8,
+        header_len: usize,
+        text: *const u8,
+        text_len: usize,
+        out: *mut u8,
+        out_len: usize,
+    ) -> u32;
+
+    fn baseline_open(
+        cipher: u8,
+        steps: u8,
+        key: *const u8,
+        key_len: usize,
+        nonce: *const u8,
+        nonce_len: usize,
+        header: *const u8,
+        header_len: usize,
+        sealed: *const u8,
+        sealed_len: usize,
+        out: *mut u8,
+        out_len: usize,
     ) -> u32;
 }
 
@@ -126,4 +157,74 @@ pub fn decipher_blocks(
         )
     };
     number == 0
+}
+
+/// Writes the sealed text, ciphertext and tag, at the start of `out`.
+#[inline]
+pub fn seal(
+    cipher: u8,
+    steps: u8,
+    key: &[u8],
+    nonce: &[u8],
+    header: &[u8],
+    text: &[u8],
+    out: &mut [u8],
+) -> Result<(), u32> {
+    // SAFETY: each slice is given with its length, and only `out` is written.
+    let number = unsafe {
+        baseline_seal(
+            cipher,
+            steps,
+            key.as_ptr(),
+            key.len(),
+            nonce.as_ptr(),
+            nonce.len(),
+            header.as_ptr(),
+            header.len(),
+            text.as_ptr(),
+            text.len(),
+            out.as_mut_ptr(),
+            out.len(),
+        )
+    };
+    answer(number)
+}
+
+/// Writes the text of what was sealed at the start of `out`.
+#[inline]
+pub fn open(
+    cipher: u8,
+    steps: u8,
+    key: &[u8],
+    nonce: &[u8],
+    header: &[u8],
+    sealed: &[u8],
+    out: &mut [u8],
+) -> Result<(), u32> {
+    // SAFETY: each slice is given with its length, and only `out` is written.
+    let number = unsafe {
+        baseline_open(
+            cipher,
+            steps,
+            key.as_ptr(),
+            key.len(),
+            nonce.as_ptr(),
+            nonce.len(),
+            header.as_ptr(),
+            header.len(),
+            sealed.as_ptr(),
+            sealed.len(),
+            out.as_mut_ptr(),
+            out.len(),
+        )
+    };
+    answer(number)
+}
+
+/// 0, or a refusal's number.
+fn answer(number: u32) -> Result<(), u32> {
+    match number {
+        0 => Ok(()),
+        number => Err(number),
+    }
 }
