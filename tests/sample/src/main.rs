@@ -1,6 +1,7 @@
-//! Enciphers one block with the proved library, deciphers it again, and prints what it did.
+//! Enciphers one block with the proved library and deciphers it again; seals a sentence, opens it
+//! again, and has it refused with one byte changed. Prints what it did.
 
-use sealed_book::{decipher, encipher, Refusal};
+use sealed_book::{decipher, encipher, open, seal, Refusal};
 
 /// Scream with 10 steps.
 const CIPHER: u8 = 1;
@@ -8,9 +9,15 @@ const STEPS: u8 = 10;
 
 fn main() -> Result<(), Refusal> {
     let key: [u8; 16] = std::array::from_fn(|i| i as u8);
+    print("key", &key, "16 secret bytes");
+    one_block(&key)?;
+    println!();
+    one_sentence(&key)
+}
+
+fn one_block(key: &[u8; 16]) -> Result<(), Refusal> {
     let tweak: [u8; 16] = std::array::from_fn(|i| 0xF0 + i as u8);
     let block = *b"A block of text.";
-    print("key", &key, "16 secret bytes");
     print(
         "tweak",
         &tweak,
@@ -19,13 +26,13 @@ fn main() -> Result<(), Refusal> {
     print("block", &block, "the 16 bytes of \"A block of text.\"");
 
     let mut text = block;
-    encipher(CIPHER, STEPS, &key, &tweak, &mut text)?;
+    encipher(CIPHER, STEPS, key, &tweak, &mut text)?;
     print(
         "enciphered",
         &text,
         "by Scream with 10 steps, under that key and tweak",
     );
-    decipher(CIPHER, STEPS, &key, &tweak, &mut text)?;
+    decipher(CIPHER, STEPS, key, &tweak, &mut text)?;
     print(
         "deciphered",
         &text,
@@ -35,8 +42,43 @@ fn main() -> Result<(), Refusal> {
     Ok(())
 }
 
+fn one_sentence(key: &[u8]) -> Result<(), Refusal> {
+    let nonce: [u8; 12] = std::array::from_fn(|i| 0xA0 + i as u8);
+    let header = b"manual 7, en to de";
+    let text = b"Hold the button down.";
+    print("nonce", &nonce, "1 to 15 public bytes, used once");
+    println!("header      {}  public, sealed along", show(header));
+    println!("text        {}  secret", show(text));
+
+    let mut sealed = [0; 37];
+    let done = seal(CIPHER, STEPS, key, &nonce, header, text, &mut sealed)?;
+    print("sealed", &sealed[..done.len - 16], "the ciphertext, and");
+    let about = format!("the tag; {} calls of the cipher", done.calls);
+    print("", &sealed[done.len - 16..], &about);
+
+    let mut opened = [0; 21];
+    let len = open(CIPHER, STEPS, key, &nonce, header, &sealed, &mut opened)?;
+    println!("opened      {}  the text again", show(&opened[..len]));
+    assert_eq!(opened[..len], text[..]);
+
+    sealed[4] ^= 1;
+    match open(CIPHER, STEPS, key, &nonce, header, &sealed, &mut opened) {
+        Ok(_) => panic!("a changed byte was not seen"),
+        Err(refusal) => println!(
+            "changed     refused {}: {refusal}  after one bit of byte 4 was changed",
+            refusal.number()
+        ),
+    }
+    Ok(())
+}
+
 /// A line: what it is, its bytes in hex, and a word about it.
-fn print(name: &str, bytes: &[u8; 16], about: &str) {
+fn print(name: &str, bytes: &[u8], about: &str) {
     let hex: String = bytes.iter().map(|byte| format!("{byte:02X}")).collect();
     println!("{name:<10}  {hex}  {about}");
+}
+
+/// The text of these bytes, in quotation marks.
+fn show(bytes: &[u8]) -> String {
+    format!("{:?}", String::from_utf8_lossy(bytes))
 }
