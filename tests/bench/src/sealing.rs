@@ -238,11 +238,12 @@ pub fn table(counter: &mut Option<Cycles>) {
 }
 
 fn print_legend(rounds: usize) {
-    println!("Sealing and opening, with a header of {HEADER} bytes and a nonce of {NONCE}: ns/B and c/B of the text.");
+    println!("Sealing and opening: nanoseconds and cycles a byte of the text.");
     println!("  library    the proved library");
     println!("  calls      its function on many blocks alone, on as many as the call list has");
     println!("  reference  the plain second implementation in Rust");
     println!("  C          bench/baseline.c with -O3, which opens by way of a buffer");
+    println!("Each text has a header of {HEADER} bytes and a nonce of {NONCE}.");
     println!("Each number is the least of {rounds} rounds, in which all took turns.");
     println!("Ratios are of ns/B; open/seal is the library's opening to its sealing.");
     println!();

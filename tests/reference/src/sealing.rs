@@ -125,7 +125,7 @@ fn text_place(number: usize, last: bool, bytes: &[u8]) -> Place {
 
 /// The tag's place after a text of m bytes. "Empty text: no text call, checksum zero, tweak E8"
 fn tag_place(m: usize) -> Place {
-    if m > 0 && m % 16 == 0 {
+    if m > 0 && m.is_multiple_of(16) {
         TagAfterFull
     } else {
         TagAfterPartial

@@ -124,7 +124,7 @@ fn bytes(text: &str) -> Vec<u8> {
     if text == "-" {
         return Vec::new();
     }
-    assert!(text.len() % 2 == 0, "{text}");
+    assert!(text.len().is_multiple_of(2), "{text}");
     let digits = (0..text.len()).step_by(2).map(|i| &text[i..i + 2]);
     digits
         .map(|two| u8::from_str_radix(two, 16).expect(text))
