@@ -1,4 +1,4 @@
-// Bytes copied, added and compared.
+// Bytes copied and added.
 ghost use mathlib.Core.Path.{_≡_};
 ghost use mathlib.Core.List.{_++_};
 ghost use Prim.Native.Nat.{_/_, _≤_};
@@ -7,7 +7,7 @@ ghost use Rattle.bits.specs.Bytes.{added};
 ghost use Rattle.calls.specs.Calls.{filled};
 ghost use Rattle.calls.specs.Tweak.{blocksOf};
 ghost use Rattle.rounds.specs.Blocks.{block};
-ghost use Rattle.mode.specs.Sums.{sumFrom, sameBytes};
+ghost use Rattle.mode.specs.Sums.{sumFrom};
 
 // The bytes of s at the start of d.
 pub fn copy(s: &[u8], d: &mut [u8])
@@ -87,17 +87,4 @@ pub fn add_to(d: &mut [u8], b: [u8; 16])
         d[i] = d[i] ^ b[i];
         i += 1;
     }
-}
-
-// Whether two blocks are the same; every byte is compared.
-pub fn same(a: [u8; 16], b: [u8; 16]) -> bool
-    ensures { λ r. ⌜ r ≡ sameBytes 16 a b ⌝ }
-{
-    let mut d: u8 = 0;
-    let mut i: usize = 0;
-    while i < 16 {
-        d = d | (a[i] ^ b[i]);
-        i += 1;
-    }
-    d == 0
 }

@@ -1,4 +1,4 @@
-// Text blocks, and the tag.
+// Text blocks.
 use cipher::suite::Suite;
 use tweak::TextBlock;
 ghost use mathlib.Core.Bool.{true, cond};
@@ -7,7 +7,7 @@ ghost use mathlib.Core.List.{_++_};
 ghost use Prim.Native.Nat.{_+_, _*_, _/_, _^_, _<_, _≤_};
 ghost use lib.ListN.{length, drop};
 ghost use Rattle.calls.specs.Calls.{lengthBlock};
-ghost use Rattle.calls.specs.Pieces.{through, tagFrom};
+ghost use Rattle.calls.specs.Pieces.{through};
 ghost use Rattle.calls.specs.Tweak.{textTweak, specialTweak, full, lastTextMark};
 ghost use Rattle.cipher.specs.Suite.{listed};
 ghost use Rattle.rounds.specs.Blocks.{strung, block};
@@ -123,20 +123,4 @@ pub fn through(
     blocks(ahead, suite, key, nonce, number, &mut s[..at]);
     let p = pad(suite, key, nonce, m, n - at);
     crate::bytes::add_to(&mut s[at..], p);
-}
-
-// The tag of a text of m bytes, by its checksum and the header's sum.
-pub fn tag(
-    suite: Suite,
-    key: [u8; 16],
-    nonce: &[u8],
-    m: usize,
-    checksum: [u8; 16],
-    sum: [u8; 16],
-) -> [u8; 16]
-    requires { ⌜ Usable suite (now nonce) ⌝ }
-    ensures { λ r. ⌜ r ≡ tagFrom (enciphers suite key) (now (nonce .entry)) m checksum sum ⌝ }
-{
-    let t = tweak::special_tweak(nonce, mark(m, 0xE0, 0xE8));
-    crate::bytes::add(encipher_one(suite, key, t, checksum), sum)
 }

@@ -20,11 +20,12 @@ use Rattle.limits.specs.Tests.{openTests, verifyTests}
 use Rattle.limits.proofs.Passed.{open-passed, verify-passed, header-limit-most, text-limit-most}
 use Rattle.mode.specs.Text.{Usable}
 use Rattle.mode.specs.Under.{enciphers, deciphers}
-use Rattle.tae.specs.Open.{ciphertext, opened, agrees, thenTag, openOutcome, openReport, openAnswer, openBuffer, verifyOutcome, verifyReport, verifyAnswer}
+use Rattle.tae.specs.Open.{ciphertext, opened, agrees, thenTag, openOutcome, openReport, openAnswer, openBuffer}
+use Rattle.tae.specs.Verify.{verifyOutcome, verifyReport, verifyAnswer}
 use Rattle.tae.specs.Passes.{Passable}
 use Rattle.tae.specs.Seal.{written}
 use Rattle.tae.specs.declared.open.OpenAnswer.the-variants.{Refused as OpenRefused}
-use Rattle.tae.specs.declared.open.VerifyAnswer.the-variants.{Refused as VerifyRefused}
+use Rattle.tae.specs.declared.verify.VerifyAnswer.the-variants.{Refused as VerifyRefused}
 use Rattle.tae.proofs.Opened.{through-split, window-long}
 
 -- what the tests leave true of key, nonce, header and sealed bytes

@@ -1,4 +1,5 @@
 pub mod Seal
 pub mod Open
+pub mod Verify
 pub mod Demand2
 pub mod Passes

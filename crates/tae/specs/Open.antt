@@ -1,20 +1,18 @@
--- What `open` and `verify` answer, and what `open` leaves in the output.
+-- What `open` answers, and what it leaves in the output.
 use mathlib.Core.Bool.{Bool}
 use mathlib.Core.List.{List}
 use Prim.Native.Nat.{ℕ, _-_}
-use lib.ListN.{length, getD, take, drop}
+use lib.ListN.{length, take, drop}
 use Rattle.calls.specs.Sealing.{opening, openingTag}
 use Rattle.cipher.specs.declared.refusal.Answer.{Answer}
 use Rattle.cipher.specs.declared.refusal.Answer.the-variants.{Done, Refused}
 use Rattle.cipher.specs.declared.refusal.Refusal.the-variants.{TagDiffers}
 use Rattle.cipher.specs.Suite.{cipherOf}
-use Rattle.limits.specs.Tests.{unless, openTests, verifyTests}
+use Rattle.limits.specs.Tests.{unless, openTests}
 use Rattle.mode.specs.Sums.{sameBytes}
 use Rattle.rounds.specs.Cipher.{encipher, decipher}
 use Rattle.tae.specs.declared.open.OpenAnswer.{OpenAnswer}
 use Rattle.tae.specs.declared.open.OpenAnswer.the-variants.{Opened, Refused as OpenRefused}
-use Rattle.tae.specs.declared.open.VerifyAnswer.{VerifyAnswer}
-use Rattle.tae.specs.declared.open.VerifyAnswer.the-variants.{Agrees, Refused as VerifyRefused}
 use Rattle.tae.specs.Seal.{written}
 
 -- "Sealed bytes are ciphertext, then tag."
@@ -51,16 +49,3 @@ openAnswer cipher steps key nonce header s out = openReport (openOutcome cipher 
 
 unfoldable pub openBuffer : ℕ → ℕ → List ℕ → List ℕ → List ℕ → List ℕ → List ℕ → List ℕ
 openBuffer cipher steps key nonce header s out = written (openOutcome cipher steps key nonce header s out) (opened cipher steps key nonce header s) out
-
--- opening without an output: 1 to 6, then 8
-unfoldable pub verifyOutcome : ℕ → ℕ → List ℕ → List ℕ → List ℕ → List ℕ → Answer
-verifyOutcome cipher steps key nonce header s =
-    thenTag (verifyTests cipher steps (length key) (length nonce) (length header) (length s)) (agrees cipher steps key nonce header s)
-
--- the first two bytes of the text, 0 for one that is not there
-abbrev pub verifyReport : Answer → List ℕ → VerifyAnswer
-verifyReport Done text = Agrees (getD text 0 0) (getD text 1 0)
-verifyReport (Refused why) text = VerifyRefused why
-
-unfoldable pub verifyAnswer : ℕ → ℕ → List ℕ → List ℕ → List ℕ → List ℕ → VerifyAnswer
-verifyAnswer cipher steps key nonce header s = verifyReport (verifyOutcome cipher steps key nonce header s) (opened cipher steps key nonce header s)

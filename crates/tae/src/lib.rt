@@ -3,3 +3,4 @@ mod counts;
 pub mod open;
 mod pass;
 pub mod seal;
+pub mod verify;

@@ -9,19 +9,13 @@ ghost use lib.ListN.{length, take, drop};
 ghost use Rattle.calls.specs.Pieces.{through};
 ghost use Rattle.cipher.specs.declared.refusal.Answer.the-variants.{Done};
 ghost use Rattle.mode.specs.Under.{enciphers, deciphers};
-ghost use Rattle.tae.specs.Open.{ciphertext, opened, agrees, thenTag, openReport, openAnswer, openBuffer, verifyReport, verifyAnswer};
+ghost use Rattle.tae.specs.Open.{ciphertext, opened, agrees, thenTag, openReport, openAnswer, openBuffer};
 ghost use Rattle.tae.specs.Passes.{Passable};
 ghost use Rattle.tae.specs.Seal.{written};
 
 // The length of the text, or the refusal.
 pub enum OpenAnswer {
     Opened(usize),
-    Refused(Refusal),
-}
-
-// The first two bytes of the text, 0 for one that is not there; or the refusal.
-pub enum VerifyAnswer {
-    Agrees(u8, u8),
     Refused(Refusal),
 }
 
@@ -53,7 +47,7 @@ fn open_with(
 {
     let m = sealed.len() - 16;
     let tag = crate::pass::tag_of(suite, key, nonce, header, &sealed[..m], work);
-    if mode::bytes::same(tag, rounds::run::block_at(sealed, m)) {
+    if mode::tag::same(tag, rounds::run::block_at(sealed, m)) {
         hand_out(suite, key, nonce, &sealed[..m], work, out);
         return Answer::Done;
     }
@@ -105,40 +99,6 @@ pub fn open(
             let k = rounds::run::block_at(key, 0);
             let answer = open_tested(suite, k, nonce, header, sealed, out);
             report(answer, s - 16)
-        }
-    }
-}
-
-// The first two bytes of the text if the tag agrees.
-fn verify_tested(
-    suite: Suite,
-    key: [u8; 16],
-    nonce: &[u8],
-    header: &[u8],
-    sealed: &[u8],
-) -> VerifyAnswer
-    requires { ⌜ Passable suite (now nonce) (now header) × Passable suite (now nonce) (ciphertext (now sealed)) × (16 ≤ length (now sealed)) ⌝ }
-    ensures { λ r. ⌜ r ≡ verifyReport (thenTag Done (agrees (suite .cipher) (suite .steps) key (now (nonce .entry)) (now (header .entry)) (now (sealed .entry)))) (opened (suite .cipher) (suite .steps) key (now (nonce .entry)) (now (header .entry)) (now (sealed .entry))) ⌝ }
-{
-    let mut work = [0u8; 1024];
-    let m = sealed.len() - 16;
-    let tag = crate::pass::tag_of(suite, key, nonce, header, &sealed[..m], &mut work);
-    if mode::bytes::same(tag, rounds::run::block_at(sealed, m)) {
-        return VerifyAnswer::Agrees(work[0], work[1]);
-    }
-    VerifyAnswer::Refused(Refusal::TagDiffers)
-}
-
-// Opens without an output: whether the tag agrees, and then the first two bytes of the text. Refusals: 1 to 6, 8.
-pub fn verify(suite: Suite, key: &[u8], nonce: &[u8], header: &[u8], sealed: &[u8]) -> VerifyAnswer
-    ensures { λ r. ⌜ r ≡ verifyAnswer (suite .cipher) (suite .steps) (now (key .entry)) (now (nonce .entry)) (now (header .entry)) (now (sealed .entry)) ⌝ }
-{
-    let tested = limits::verify_tests(suite, key.len(), nonce.len(), header.len(), sealed.len());
-    match tested {
-        Answer::Refused(why) => VerifyAnswer::Refused(why),
-        Answer::Done => {
-            let k = rounds::run::block_at(key, 0);
-            verify_tested(suite, k, nonce, header, sealed)
         }
     }
 }

@@ -107,5 +107,5 @@ pub(crate) fn tag_of(
     let first = add_window(suite, key, nonce, c, 0, [0u8; 16], &mut work[..n]);
     let all = add_rest(suite, key, nonce, c, crate::counts::blocks_of(n), first);
     let sum = mode::header::sum(suite, key, nonce, header);
-    mode::text::tag(suite, key, nonce, m, all, sum)
+    mode::tag::make(suite, key, nonce, m, all, sum)
 }

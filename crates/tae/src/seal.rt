@@ -34,7 +34,7 @@ fn write_sealed(
     mode::text::through(true, suite, key, nonce, m, TextBlock(0), &mut out[..m]);
     let sum = mode::header::sum(suite, key, nonce, header);
     let checksum = mode::bytes::add_all([0u8; 16], text);
-    let tag = mode::text::tag(suite, key, nonce, m, checksum, sum);
+    let tag = mode::tag::make(suite, key, nonce, m, checksum, sum);
     rounds::run::put_at(out, m, tag);
 }
 

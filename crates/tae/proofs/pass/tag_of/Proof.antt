@@ -50,7 +50,7 @@ returns c =
     let short = p .pre .1 .usable .short in
     let all = c .before .before .add-rest .ensures ∙ sum-all (a .suite) (a .key) (a .nonce .now) (a .c .now) short (p .pre .1 .small) in
     let n = front h ∙ h .lesser .ensures in (
-      c .tag .ensures
+      c .make .ensures
           ∙ (λ i. tagFrom e (a .nonce .now) m (all i) (c .before .sum .ensures i))
           ∙ sym (openingTag-is e d (enciphers-blockwise (a .suite) (a .key)) (a .nonce .now) short (a .header .now) (deciphers-blockwise (a .suite) (a .key)) (a .c .now)),
       (λ i. (w .add-window .ensures .1 ∙ ap (λ k. through d e (a .nonce .now) m 0 (take k (a .c .now))) n) i ++ drop (h .lesser .ensures i) (a .work .now)),

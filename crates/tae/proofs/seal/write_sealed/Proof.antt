@@ -35,7 +35,7 @@ returns c =
     let t = a .text .now in
     let m = length t in
     let text : w .through .last .1 .1 .1 .1 .1 .1 .0 ≡ through e e (a .nonce .now) m 0 t = w .through .ensures ∙ ap (through e e (a .nonce .now) m 0) (lent y) in
-    let tag = g .tag .ensures ∙ (λ j. tagFrom e (a .nonce .now) m ((g .before .add-all .ensures ∙ checksum-is t) j) (g .before .before .sum .ensures j)) in
+    let tag = g .make .ensures ∙ (λ j. tagFrom e (a .nonce .now) m ((g .before .add-all .ensures ∙ checksum-is t) j) (g .before .before .sum .ensures j)) in
     c .before .before .put-at .ensures
     ∙ (λ j. paste (text j ++ drop m (y .copy .ensures j)) m (tag j) 16)
     ∙ sealed-written (a .suite) (a .key) (a .nonce .now) (a .header .now) t (y .before .before .before .before .before .before .pre .0 .usable .short) (a .out .now)

@@ -5,8 +5,8 @@ use Rattle.bits.specs.Bytes.{added}
 use Rattle.calls.specs.Pieces.{tagFrom}
 use Rattle.calls.specs.Tweak.{specialTweak}
 use Rattle.mode.specs.Under.{enciphers}
-use Rattle.mode.proofs.text.tag.Statement.{statement}
-use Rattle.mode.proofs.text.tag.Tie as tie
+use Rattle.mode.proofs.tag.make.Statement.{statement}
+use Rattle.mode.proofs.tag.make.Tie as tie
 
 returns : tie.Need-returns
 unfolding tagFrom
@@ -17,5 +17,5 @@ returns c =
     (c .before .encipher-one .ensures
     ∙ ap (λ t. enciphers (a .suite) (a .key) t (a .checksum)) (c .before .before .special-tweak .ensures ∙ ap (specialTweak (a .nonce .now)) (c .before .before .before .mark .ensures)))
 
-pub tag-spec : {M : Type 1} → statement M
-tag-spec = tie.close (tie.spec (λ c κs. search needs) (λ c κs. search needs) (λ c κs. search needs) (λ c κs. search needs) returns)
+pub make-spec : {M : Type 1} → statement M
+make-spec = tie.close (tie.spec (λ c κs. search needs) (λ c κs. search needs) (λ c κs. search needs) (λ c κs. search needs) returns)

@@ -6,10 +6,11 @@ use lib.ListN.{length}
 use lib.Seq.{take-all}
 use Rattle.cipher.specs.declared.refusal.Answer.the-variants.{Done}
 use Rattle.limits.specs.Tests.{verifyTests}
-use Rattle.tae.specs.Open.{opened, agrees, thenTag, verifyReport}
+use Rattle.tae.specs.Open.{opened, agrees, thenTag}
+use Rattle.tae.specs.Verify.{verifyReport}
 use Rattle.tae.proofs.Answers.{Ready, verify-refused, verify-ready, verify-done}
-use Rattle.tae.proofs.open.verify.Statement.{statement}
-use Rattle.tae.proofs.open.verify.Tie as tie
+use Rattle.tae.proofs.verify.verify.Statement.{statement}
+use Rattle.tae.proofs.verify.verify.Tie as tie
 
 module _ (c : tie.After-enum-told) where
   -- the tests are done

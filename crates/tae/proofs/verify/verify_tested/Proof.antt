@@ -9,12 +9,13 @@ use lib.ListN.{length, getD, take}
 use lib.Seq.{length-take-le}
 use Rattle.cipher.specs.declared.refusal.Answer.the-variants.{Done}
 use Rattle.mode.specs.Sums.{sameBytes}
-use Rattle.tae.specs.Open.{ciphertext, opened, agrees, thenTag, verifyReport}
-use Rattle.tae.specs.declared.open.VerifyAnswer.the-variants.{Agrees}
+use Rattle.tae.specs.Open.{ciphertext, opened, agrees, thenTag}
+use Rattle.tae.specs.Verify.{verifyReport}
+use Rattle.tae.specs.declared.verify.VerifyAnswer.the-variants.{Agrees}
 use Rattle.tae.proofs.Opened.{opened-is, agrees-is}
 use Rattle.tae.proofs.Answers.{window-byte}
-use Rattle.tae.proofs.open.verify_tested.Statement.{statement}
-use Rattle.tae.proofs.open.verify_tested.Tie as tie
+use Rattle.tae.proofs.verify.verify_tested.Statement.{statement}
+use Rattle.tae.proofs.verify.verify_tested.Tie as tie
 
 front : (c : tie.Start) → length (take (length (c .args .sealed .now) - 16) (c .args .sealed .now)) ≡ length (c .args .sealed .now) - 16
 front c = length-take-le (length (c .args .sealed .now) - 16) (c .args .sealed .now) (omega arith)

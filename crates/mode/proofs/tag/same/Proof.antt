@@ -9,8 +9,8 @@ use lib.Dec.{eqb}
 use lib.ListN.{getD}
 use Rattle.mode.specs.Sums.{sameBytes}
 use Rattle.mode.proofs.Sums.{differs-more}
-use Rattle.mode.proofs.bytes.same.Statement.{statement}
-use Rattle.mode.proofs.bytes.same.Tie as tie
+use Rattle.mode.proofs.tag.same.Statement.{statement}
+use Rattle.mode.proofs.tag.same.Tie as tie
 
 abbrev Inv-loop : tie.InvT-loop
 Inv-loop a b d₀ i₀ d i = (i ≤ 16) × (eqb d 0 ≡ sameBytes i a b)
