@@ -5,6 +5,7 @@ use cipher::suite::Suite;
 use libc::STDOUT_FILENO;
 use tae::open::OpenAnswer;
 use tae::seal::SealAnswer;
+use tae::verify::VerifyAnswer;
 ghost use Prim.Native.Nat.{_<_, _≤_};
 ghost use lib.ListN.{length};
 ghost use Rattle.io.specs.Counts.{Counts};
@@ -153,6 +154,17 @@ fn run_seal(suite: Suite, key: &[u8], nonce: &[u8], header: &[u8], text: &[u8]) 
     }
 }
 
+// The text's first two bytes.
+fn run_verify(suite: Suite, key: &[u8], nonce: &[u8], header: &[u8], sealed: &[u8]) {
+    match tae::verify::verify(suite, key, nonce, header, sealed) {
+        VerifyAnswer::Agrees(first, second) => {
+            write_byte(first);
+            write_byte(second);
+        }
+        VerifyAnswer::Refused(why) => write_refusal(why),
+    }
+}
+
 // The text.
 fn run_open(suite: Suite, key: &[u8], nonce: &[u8], header: &[u8], sealed: &[u8]) {
     let mut out = [0u8; 16384];
@@ -181,6 +193,8 @@ fn run_tae(sealing: bool, suite: Suite, s: &[u8], at: usize)
         run_seal(suite, &key[..k], &nonce[..n], &header[..a], &input[..m]);
     } else {
         run_open(suite, &key[..k], &nonce[..n], &header[..a], &input[..m]);
+        write(b" ");
+        run_verify(suite, &key[..k], &nonce[..n], &header[..a], &input[..m]);
     }
 }
 
