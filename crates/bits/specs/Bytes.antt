@@ -1,7 +1,9 @@
 -- Strings of bytes.
+use mathlib.Core.Bool.{Bool, true, _&&_}
 use mathlib.Core.List.{List, [], _∷_, zipWith}
 use Prim.Native.Nat.{ℕ, zero, suc, _/_, _%_, _^_, _<_}
 use lib.Bits.{bitXor}
+use lib.Dec.{eqb}
 use lib.ListN.{getD}
 
 -- every element is a byte; past the last stands 0, so the bound is said of every index
@@ -12,6 +14,11 @@ pub record Bytes (s : List ℕ) : Type 0 where
 unfoldable pub bigEndian : ℕ → ℕ → List ℕ
 bigEndian zero v = []
 bigEndian (suc k) v = v / 256 ^ k % 256 ∷ bigEndian k v
+
+-- the first n bytes of two strings are the same
+abbrev pub sameBytes : ℕ → List ℕ → List ℕ → Bool
+sameBytes zero x y = true
+sameBytes (suc n) x y = sameBytes n x y && eqb (getD x n 0) (getD y n 0)
 
 -- two strings added by xor, as far as both go
 unfoldable pub added : List ℕ → List ℕ → List ℕ

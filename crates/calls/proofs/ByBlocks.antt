@@ -14,7 +14,7 @@ use Rattle.rounds.specs.Blocks.{block}
 use Rattle.rounds.proofs.Each.{Blockwise, block-long}
 use Rattle.calls.specs.Tweak.{tweak, textTweak, headerTweak, specialTweak, blocksOf, inner, lastTextMark, lastHeaderMark, tagMark}
 use Rattle.calls.specs.Calls.{CipherCall, filled, lengthBlock, sumOf, checksum, headerCall, textCall, tagCall, blockCalls, calls}
-use Rattle.calls.specs.Sealing.{Outcome, run, isText, outcomeAt, placed, tagPart, tagOf, ahead, back, sealing, openOutcomes, opening, openingTag}
+use Rattle.calls.specs.Sealing.{Outcome, run, isText, outcomeAt, placed, tagPart, tagOf, assembled, ahead, sealing, openedTag, back, openOutcomes, opening, openingTag}
 use Rattle.calls.specs.Pieces.{piece, through, headerSum, tagFrom}
 use Rattle.calls.proofs.Tweaks.{length-tweak}
 use Rattle.calls.proofs.Strung.{strung-ext, length-strung, block-short}
@@ -103,7 +103,7 @@ cond-added true b u v = refl
 cond-added false b u v = refl
 
 module _ (e d : List ℕ → List ℕ → List ℕ) (nonce t : List ℕ) (i : ℕ) where
-  ahead-text : ahead e d (textCall nonce t i) ≡ textOutcome e e nonce t i
+  ahead-text : ahead e (textCall nonce t i) ≡ textOutcome e e nonce t i
   unfolding textCall
   ahead-text =
       cond-ahead e e (textTweak nonce i) (specialTweak nonce (lastTextMark (length t))) (block t i) (lengthBlock (length (block t i))) (inner (length t) i)
@@ -216,21 +216,21 @@ opening-is e d nonce h c =
     ∙ placed-is (back e d (length c)) nonce h c [] d e (back-text e d nonce c)
 
 module _ (e d : List ℕ → List ℕ → List ℕ) (k : Blockwise e) (nonce : List ℕ) (short : length nonce ≤ 15) (h : List ℕ) where
-  sealing-tag : (t : List ℕ) → tagOf (run (ahead e d) (calls nonce h t)) ≡ tagFrom e nonce (length t) (checksum t) (headerSum e nonce h)
+  sealing-tag : (t : List ℕ) → tagOf (run (ahead e) (calls nonce h t)) ≡ tagFrom e nonce (length t) (checksum t) (headerSum e nonce h)
   unfolding calls tagOf run tagCall tagFrom
   sealing-tag t =
       let last : List ℕ = e (specialTweak nonce (tagMark (length t))) (checksum t) in
       let long : length last ≡ 16 = length-special e k nonce short (tagMark (length t)) (checksum t) (length-checksum t) in
-      tag-is (ahead e d) nonce h t (tagCall nonce t ∷ []) e (λ i. refl)
+      tag-is (ahead e) nonce h t (tagCall nonce t ∷ []) e (λ i. refl)
       ∙ ap (added (headerSum e nonce h)) (added-zeros last 16 (le-of-eq long))
       ∙ added-comm (headerSum e nonce h) last
 
   pub sealing-is : (t : List ℕ)
-      → sealing e d nonce h t ≡ through e e nonce (length t) 0 t ++ tagFrom e nonce (length t) (checksum t) (headerSum e nonce h)
-  unfolding sealing calls
-  sealing-is t = λ j. placed-is (ahead e d) nonce h t (tagCall nonce t ∷ []) e e (ahead-text e d nonce t) j ++ sealing-tag t j
+      → sealing e nonce h t ≡ through e e nonce (length t) 0 t ++ tagFrom e nonce (length t) (checksum t) (headerSum e nonce h)
+  unfolding sealing assembled calls
+  sealing-is t = λ j. placed-is (ahead e) nonce h t (tagCall nonce t ∷ []) e e (ahead-text e d nonce t) j ++ sealing-tag t j
 
-  pub length-sealing : (t : List ℕ) → length (sealing e d nonce h t) ≡ length t + 16
+  pub length-sealing : (t : List ℕ) → length (sealing e nonce h t) ≡ length t + 16
   length-sealing t =
       let front = length-through e e k k nonce short t in
       let back = length-tagFrom e k nonce short (length t) (checksum t) (headerSum e nonce h) (length-checksum t) (length-headerSum e k nonce short h) in
@@ -245,7 +245,8 @@ module _ (e d : List ℕ → List ℕ → List ℕ) (k : Blockwise e) (nonce : L
 
   pub openingTag-is : Blockwise d → (c : List ℕ)
       → openingTag e d nonce h c ≡ tagFrom e nonce (length c) (checksum (through d e nonce (length c) 0 c)) (headerSum e nonce h)
-  unfolding openingTag tagCall tagFrom
+  unfolding openingTag openedTag opening tagCall tagFrom
   openingTag-is kd c =
-      let long = length-through d e kd k nonce short c in
-      rw (opening-is e d nonce h c, opening-tag c, long)
+      let y = through d e nonce (length c) 0 c in
+      (λ j. added (ahead e (tagCall nonce (opening-is e d nonce h c j))) (opening-tag c j))
+      ∙ ap (λ (n : ℕ). added (e (specialTweak nonce (tagMark n)) (checksum y)) (headerSum e nonce h)) (length-through d e kd k nonce short c)

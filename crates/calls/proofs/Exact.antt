@@ -122,15 +122,15 @@ module _ (e d : List ℕ → List ℕ → List ℕ) (ke : Blockwise e) (kd : Blo
   pub bytes-opening : (h c : List ℕ) → Bytes c → Bytes (opening e d nonce h c)
   bytes-opening h c b = rw opening-is (bytes-through d e (v .behind) (v .ahead) nonce short nonce-bytes c b)
 
-  pub seal-opened : (h c : List ℕ) → Bytes c → sealing e d nonce h (opening e d nonce h c) ≡ c ++ openingTag e d nonce h c
+  pub seal-opened : (h c : List ℕ) → Bytes c → sealing e nonce h (opening e d nonce h c) ≡ c ++ openingTag e d nonce h c
   seal-opened h c b =
       let x : List ℕ = through d e nonce (length c) 0 c in
-      ap (sealing e d nonce h) (opening-is e d nonce h c)
+      ap (sealing e nonce h) (opening-is e d nonce h c)
       ∙ sealing-is e d ke nonce short h x
       ∙ ap (λ (m : ℕ). through e e nonce m 0 x ++ tagFrom e nonce m (checksum x) (headerSum e nonce h)) (length-through d e kd ke nonce short c)
       ∙ (λ j. through-ahead c b j ++ sym (openingTag-is e d ke nonce short h kd c) j)
 
-  pub open-sealed : (h s t : List ℕ) → Bytes t → sealing e d nonce h t ≡ s
+  pub open-sealed : (h s t : List ℕ) → Bytes t → sealing e nonce h t ≡ s
       → (openingTag e d nonce h (take (length s - 16) s) ≡ drop (length s - 16) s) × (opening e d nonce h (take (length s - 16) s) ≡ t)
   open-sealed h s t b r = (rw (front, back) tag-is, rw front text-is)
     where
@@ -169,19 +169,19 @@ module _ (e d : List ℕ → List ℕ → List ℕ) (ke : Blockwise e) (kd : Blo
   -- A string is accepted and opened to t exactly if it is the sealing of the bytes t.
   pub open-exact : (h s t : List ℕ) → Bytes s
       → ((openingTag e d nonce h (take (length s - 16) s) ≡ drop (length s - 16) s) × (opening e d nonce h (take (length s - 16) s) ≡ t))
-      ↔ (Bytes t × (sealing e d nonce h t ≡ s))
+      ↔ (Bytes t × (sealing e nonce h t ≡ s))
   open-exact h s t b = (sealed, (λ (x, r). open-sealed h s t x r))
     where
       c : List ℕ
       c = take (length s - 16) s
 
-      sealed : (openingTag e d nonce h c ≡ drop (length s - 16) s) × (opening e d nonce h c ≡ t) → Bytes t × (sealing e d nonce h t ≡ s)
+      sealed : (openingTag e d nonce h c ≡ drop (length s - 16) s) × (opening e d nonce h c ≡ t) → Bytes t × (sealing e nonce h t ≡ s)
       sealed (p, q) =
           let cb : Bytes c = bytes-take (length s - 16) s b in (
             subst (λ (x : List ℕ). Bytes x) q (bytes-opening h c cb),
-            ap (sealing e d nonce h) (sym q) ∙ seal-opened h c cb ∙ ap (λ (g : List ℕ). c ++ g) p ∙ take-append-drop (length s - 16) s,
+            ap (sealing e nonce h) (sym q) ∙ seal-opened h c cb ∙ ap (λ (g : List ℕ). c ++ g) p ∙ take-append-drop (length s - 16) s,
           )
 
-  pub sealing-one : (h t₁ t₂ : List ℕ) → Bytes t₁ → Bytes t₂ → sealing e d nonce h t₁ ≡ sealing e d nonce h t₂ → t₁ ≡ t₂
+  pub sealing-one : (h t₁ t₂ : List ℕ) → Bytes t₁ → Bytes t₂ → sealing e nonce h t₁ ≡ sealing e nonce h t₂ → t₁ ≡ t₂
   sealing-one h t₁ t₂ b₁ b₂ r =
-      sym (open-sealed h (sealing e d nonce h t₂) t₁ b₁ r .1) ∙ open-sealed h (sealing e d nonce h t₂) t₂ b₂ refl .1
+      sym (open-sealed h (sealing e nonce h t₂) t₁ b₁ r .1) ∙ open-sealed h (sealing e nonce h t₂) t₂ b₂ refl .1

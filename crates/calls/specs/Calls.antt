@@ -32,7 +32,7 @@ unfoldable pub sumOf : ℕ → (ℕ → List ℕ) → List ℕ
 sumOf zero g = replicate 16 0
 sumOf (suc n) g = added (sumOf n g) (g n)
 
--- "Checksum: xor of text blocks, the last zero-filled."
+-- "Checksum: xor of text blocks, the last zero-filled. Empty text: checksum zero."
 unfoldable pub checksum : List ℕ → List ℕ
 checksum t = sumOf (blocksOf (length t)) (λ i. filled 0x00 (block t i))
 
@@ -54,7 +54,7 @@ textCall nonce t i =
       block = cond (inner (length t) i) (block t i) (lengthBlock (length (block t i)));
     }
 
--- "Tag: enciphered checksum xor all enciphered header blocks."
+-- the call whose outcome, added to all enciphered header blocks, is the tag
 unfoldable pub tagCall : List ℕ → List ℕ → CipherCall
 tagCall nonce t = record { place = tag; tweak = specialTweak nonce (tagMark (length t)); block = checksum t }
 
@@ -62,6 +62,6 @@ tagCall nonce t = record { place = tag; tweak = specialTweak nonce (tagMark (len
 unfoldable pub blockCalls : List ℕ → List ℕ → List ℕ → List CipherCall
 blockCalls nonce h t = tab (blocksOf (length h)) (headerCall nonce h) ++ tab (blocksOf (length t)) (textCall nonce t)
 
--- "The call list is these (tweak, block) pairs: header, text, tag"
+-- "The call list is these (tweak, block) pairs: header, text, tag, ⌈a/16⌉ + ⌈m/16⌉ + 1 in all." (length-calls)
 unfoldable pub calls : List ℕ → List ℕ → List ℕ → List CipherCall
 calls nonce h t = blockCalls nonce h t ++ tagCall nonce t ∷ []

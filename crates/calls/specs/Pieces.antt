@@ -10,11 +10,12 @@ use Rattle.calls.specs.Tweak.{textTweak, headerTweak, specialTweak, bloc
 use Rattle.calls.specs.Calls.{filled, lengthBlock, sumOf}
 
 module _ (f e : List ℕ → List ℕ → List ℕ) where
-  -- block i of a text of m bytes: a block that is not last goes through f, to the last its enciphered length is added
+  -- what block i of a text of m bytes becomes: f of its tweak and itself where it is not last; the last one with its enciphered
+  -- length added
   unfoldable pub piece : List ℕ → ℕ → ℕ → List ℕ → List ℕ
   piece nonce m i b = cond (inner m i) (f (textTweak nonce i) b) (added b (e (specialTweak nonce (lastTextMark m)) (lengthBlock (length b))))
 
-  -- the part s of a text of m bytes that begins at its block `first`
+  -- what the part s of a text of m bytes becomes that begins at its block `first`
   unfoldable pub through : List ℕ → ℕ → ℕ → List ℕ → List ℕ
   through nonce m first s = strung (blocksOf (length s)) (λ i. piece nonce m (first + i) (block s i))
 

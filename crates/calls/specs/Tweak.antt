@@ -7,7 +7,7 @@ use lib.ListN.{length}
 use Rattle.bits.specs.Bytes.{bigEndian}
 
 -- "A nonce has n bytes, 1 to 15, and stands first." In all remaining bytes a number, big-endian, with a mark added in the first
--- of these.
+-- of these. Within the limits a number leaves the mark's bits free.
 unfoldable pub tweak : List ℕ → ℕ → ℕ → List ℕ
 tweak nonce mark number = nonce ++ bigEndian (16 - length nonce) (mark * 256 ^ (15 - length nonce) + number)
 

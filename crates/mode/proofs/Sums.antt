@@ -19,7 +19,8 @@ use Rattle.calls.specs.Tweak.{blocksOf}
 use Rattle.bits.proofs.Fronts.{drop-zeros}
 use Rattle.rounds.specs.Blocks.{block}
 use Rattle.rounds.proofs.Each.{block-long}
-use Rattle.mode.specs.Sums.{sumFrom, sameBytes}
+use Rattle.mode.specs.Sums.{sumFrom}
+use Rattle.bits.specs.Bytes.{sameBytes}
 
 -- differences gathered so far, and one byte of each more
 or-test : (d z : ℕ) → eqb (bitOr d z) 0 ≡ (eqb d 0 && eqb z 0)

@@ -17,18 +17,18 @@ fn chunk(
     suite: Suite,
     key: [u8; 16],
     nonce: &[u8],
-    first: u64,
+    first: HeaderBlock,
     k: usize,
     header: &[u8],
     sum: [u8; 16],
 ) -> [u8; 16]
-    requires { ⌜ Usable suite (now nonce) × (k ≤ 64) × (16 * k ≤ length (now header)) × (first + k < 2 ^ 64) ⌝ }
-    ensures { λ r. ⌜ r ≡ sumFrom sum k (λ i. enciphers suite key (headerTweak (now (nonce .entry)) (first + i)) (block (now (header .entry)) i)) ⌝ }
+    requires { ⌜ Usable suite (now nonce) × (k ≤ 64) × (16 * k ≤ length (now header)) × (first .0 + k < 2 ^ 64) ⌝ }
+    ensures { λ r. ⌜ r ≡ sumFrom sum k (λ i. enciphers suite key (headerTweak (now (nonce .entry)) (first .0 + i)) (block (now (header .entry)) i)) ⌝ }
 {
     let mut tweaks = [0u8; 1024];
     let mut blocks = [0u8; 1024];
     let end = 16 * k;
-    tweak::header_tweaks(nonce, HeaderBlock(first), k, &mut tweaks);
+    tweak::header_tweaks(nonce, first, k, &mut tweaks);
     crate::bytes::copy(&header[..end], &mut blocks);
     cipher::blocks::encipher_blocks(suite, key, &tweaks[..end], &mut blocks);
     crate::bytes::add_blocks(sum, &blocks[..end])
@@ -44,7 +44,15 @@ fn inner(suite: Suite, key: [u8; 16], nonce: &[u8], header: &[u8], n: usize) -> 
     while done < n {
         let k = crate::text::few(n - done);
         let at = 16 * done;
-        let next = chunk(suite, key, nonce, done as u64, k, &header[at..], sum);
+        let next = chunk(
+            suite,
+            key,
+            nonce,
+            HeaderBlock(done as u64),
+            k,
+            &header[at..],
+            sum,
+        );
         sum = next;
         done += k;
     }

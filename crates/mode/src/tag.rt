@@ -2,7 +2,7 @@
 use cipher::suite::Suite;
 ghost use mathlib.Core.Path.{_≡_};
 ghost use Rattle.calls.specs.Pieces.{tagFrom};
-ghost use Rattle.mode.specs.Sums.{sameBytes};
+ghost use Rattle.bits.specs.Bytes.{sameBytes};
 ghost use Rattle.mode.specs.Text.{Usable};
 ghost use Rattle.mode.specs.Under.{enciphers};
 

@@ -4,7 +4,7 @@ use tweak::TextBlock;
 ghost use mathlib.Core.Bool.{true, cond};
 ghost use mathlib.Core.Path.{_≡_};
 ghost use mathlib.Core.List.{_++_};
-ghost use Prim.Native.Nat.{_+_, _*_, _/_, _^_, _<_, _≤_};
+ghost use Prim.Native.Nat.{_+_, _*_, _/_, _^_, _<_, _≤_, min};
 ghost use lib.ListN.{length, drop};
 ghost use Rattle.calls.specs.Calls.{lengthBlock};
 ghost use Rattle.calls.specs.Pieces.{through};
@@ -33,7 +33,7 @@ pub fn mark(n: usize, whole: u8, partial: u8) -> u8
 
 // n, but at most 64.
 pub fn few(n: usize) -> usize
-    ensures { λ r. ⌜ (r ≤ n) × (r ≤ 64) × (0 < n → 0 < r) ⌝ }
+    ensures { λ r. ⌜ r ≡ min n 64 ⌝ }
 {
     if n < 64 { n } else { 64 }
 }
@@ -48,12 +48,20 @@ pub fn encipher_one(suite: Suite, key: [u8; 16], tweak: [u8; 16], block: [u8; 16
 }
 
 // The first k blocks of s, each under the tweak of its number, from `first` on.
-fn chunk(ahead: bool, suite: Suite, key: [u8; 16], nonce: &[u8], first: u64, k: usize, s: &mut [u8])
-    requires { ⌜ Usable suite (now nonce) × (k ≤ 64) × (16 * k ≤ length (now s)) × (first + k < 2 ^ 64) ⌝ }
-    ensures { λ r. ⌜ now (s .exit) ≡ strung k (λ i. either ahead suite key (textTweak (now (nonce .entry)) (first + i)) (block (now (s .entry)) i)) ++ drop (16 * k) (now (s .entry)) ⌝ }
+fn chunk(
+    ahead: bool,
+    suite: Suite,
+    key: [u8; 16],
+    nonce: &[u8],
+    first: TextBlock,
+    k: usize,
+    s: &mut [u8],
+)
+    requires { ⌜ Usable suite (now nonce) × (k ≤ 64) × (16 * k ≤ length (now s)) × (first .0 + k < 2 ^ 64) ⌝ }
+    ensures { λ r. ⌜ now (s .exit) ≡ strung k (λ i. either ahead suite key (textTweak (now (nonce .entry)) (first .0 + i)) (block (now (s .entry)) i)) ++ drop (16 * k) (now (s .entry)) ⌝ }
 {
     let mut tweaks = [0u8; 1024];
-    tweak::text_tweaks(nonce, TextBlock(first), k, &mut tweaks);
+    tweak::text_tweaks(nonce, first, k, &mut tweaks);
     let end = 16 * k;
     if ahead {
         cipher::blocks::encipher_blocks(suite, key, &tweaks[..end], s);
@@ -63,10 +71,11 @@ fn chunk(ahead: bool, suite: Suite, key: [u8; 16], nonce: &[u8], first: u64, k: 
 }
 
 // The whole blocks of s likewise.
-fn blocks(ahead: bool, suite: Suite, key: [u8; 16], nonce: &[u8], first: u64, s: &mut [u8])
-    requires { ⌜ Usable suite (now nonce) × (first + length (now s) < 2 ^ 63) ⌝ }
-    ensures { λ r. ⌜ now (s .exit) ≡ strung (length (now (s .entry)) / 16) (λ i. either ahead suite key (textTweak (now (nonce .entry)) (first + i)) (block (now (s .entry)) i)) ++ drop (16 * (length (now (s .entry)) / 16)) (now (s .entry)) ⌝ }
+fn blocks(ahead: bool, suite: Suite, key: [u8; 16], nonce: &[u8], first: TextBlock, s: &mut [u8])
+    requires { ⌜ Usable suite (now nonce) × (first .0 + length (now s) < 2 ^ 63) ⌝ }
+    ensures { λ r. ⌜ now (s .exit) ≡ strung (length (now (s .entry)) / 16) (λ i. either ahead suite key (textTweak (now (nonce .entry)) (first .0 + i)) (block (now (s .entry)) i)) ++ drop (16 * (length (now (s .entry)) / 16)) (now (s .entry)) ⌝ }
 {
+    let number = first.0;
     let n = s.len() / 16;
     let mut done: usize = 0;
     while done < n {
@@ -77,7 +86,7 @@ fn blocks(ahead: bool, suite: Suite, key: [u8; 16], nonce: &[u8], first: u64, s:
             suite,
             key,
             nonce,
-            first + (done as u64),
+            TextBlock(number + (done as u64)),
             k,
             &mut s[at..],
         );
@@ -113,14 +122,14 @@ pub fn through(
     let n = s.len();
     let end = 16 * (number as usize) + n;
     if end < m {
-        blocks(ahead, suite, key, nonce, number, s);
+        blocks(ahead, suite, key, nonce, first, s);
         return;
     }
     if n == 0 {
         return;
     }
     let at = 16 * ((n - 1) / 16);
-    blocks(ahead, suite, key, nonce, number, &mut s[..at]);
+    blocks(ahead, suite, key, nonce, first, &mut s[..at]);
     let p = pad(suite, key, nonce, m, n - at);
     crate::bytes::add_to(&mut s[at..], p);
 }

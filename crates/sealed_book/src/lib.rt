@@ -123,8 +123,8 @@ pub extern "C" fn sb_open(
     let answer = tae::open::open(Suite { cipher, steps }, key, nonce, header, sealed, out);
     match answer {
         OpenAnswer::Refused(why) => why.number(),
-        OpenAnswer::Opened(n) => {
-            *len = n as u64;
+        OpenAnswer::Opened(m) => {
+            *len = m as u64;
             0
         }
     }

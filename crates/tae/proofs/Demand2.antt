@@ -1,6 +1,7 @@
--- Demand 2 holds, for every suite, key, nonce and header of bytes.
+-- Demand 2 holds.
 use mathlib.Core.Path.{_≡_, refl, sym, ap, _∙_}
 use mathlib.Core.Bool.{Bool, true, false, _&&_, false≢true}
+use mathlib.Core.Logic.{_↔_, _⊎_, inl, inr}
 use mathlib.Core.List.{List, _++_}
 use Prim.Native.Nat.{ℕ, zero, suc, _+_, _-_, _≤_, _<_}
 use native.Mathlib.Decide.{ℕ-discrete}
@@ -11,25 +12,27 @@ use lib.Dec.{eqb}
 use lib.ListN.{length, getD, take, drop, length-drop}
 use lib.Seq.{ext-getD, take-at, length-take-le}
 use Rattle.bits.specs.Bytes.{Bytes}
-use Rattle.calls.specs.Calls.{checksum}
+use Rattle.calls.specs.Calls.{checksum, calls}
 use Rattle.calls.specs.Pieces.{through, headerSum}
 use Rattle.calls.specs.Sealing.{sealing, opening, openingTag}
 use Rattle.calls.proofs.ByBlocks.{opening-is, openingTag-is, length-tagFrom, length-checksum, length-headerSum, length-sealing, length-through}
 use Rattle.calls.proofs.Exact.{Inverse, open-exact, open-sealed, sealing-one}
 use Rattle.cipher.specs.declared.refusal.Answer.the-variants.{Done}
+use Rattle.cipher.specs.declared.refusal.Answer.{Answer}
 use Rattle.cipher.specs.declared.suite.Suite.{Suite}
 use Rattle.cipher.specs.Suite.{cipherOf}
-use Rattle.limits.proofs.Passed.{Sealable, Openable as Passing, seal-passed, open-passed, open-passes}
-use Rattle.mode.specs.Sums.{sameBytes}
+use Rattle.limits.proofs.Passed.{Openable as Passing, seal-passed, open-passed, open-passes}
+use Rattle.bits.specs.Bytes.{sameBytes}
 use Rattle.mode.specs.Under.{enciphers, deciphers}
 use Rattle.mode.proofs.Chunks.{enciphers-blockwise, deciphers-blockwise}
 use Rattle.rounds.proofs.Inverse.{encipher-block, decipher-block, decipher-encipher, encipher-decipher}
 use Rattle.state.specs.Block.{Block}
-use Rattle.tae.specs.Demand2.{Under, image, Accepts, Openable, Demand2}
+use Rattle.tae.specs.Demand2.{Context, image, Sealable, Openable, Accepts, Differs, Holds, Demand2}
 use Rattle.tae.specs.Open.{ciphertext, opened, agrees, thenTag, openReport, openAnswer, openBuffer}
-use Rattle.tae.specs.Seal.{sealed, sealOutcome, written}
+use Rattle.tae.specs.Seal.{sealed, sealOutcome, sealReport, sealAnswer, sealBuffer, written}
 use Rattle.tae.specs.declared.open.OpenAnswer.{OpenAnswer}
 use Rattle.tae.specs.declared.open.OpenAnswer.the-variants.{Opened, Refused as OpenRefused}
+use Rattle.tae.specs.declared.seal.SealAnswer.the-variants.{Sealed}
 use Rattle.tae.proofs.Answers.{open-done}
 use Rattle.tae.proofs.Opened.{opened-long}
 
@@ -62,7 +65,7 @@ told : OpenAnswer → ℕ
 told (Opened n) = suc n
 told (OpenRefused why) = 0
 
-module _ (u : Under) (key-bytes : Bytes (u .key)) (nonce-bytes : Bytes (u .nonce)) where
+module _ (u : Context) (key-bytes : Bytes (u .key)) (nonce-bytes : Bytes (u .nonce)) where
   S : Suite
   S = record { cipher = u .cipher; steps = u .steps }
 
@@ -87,9 +90,33 @@ module _ (u : Under) (key-bytes : Bytes (u .key)) (nonce-bytes : Bytes (u .nonce
       ap length (openingTag-is e (deciphers S (u .key)) k (u .nonce) short (u .header) (deciphers-blockwise S (u .key)) x)
       ∙ length-tagFrom e k (u .nonce) short (length x) (checksum y) (headerSum e (u .nonce) (u .header)) (length-checksum y) (length-headerSum e k (u .nonce) short (u .header))
 
-  image-long : length (u .nonce) ≤ 15 → (t : List ℕ) → length (image u t) ≡ length t + 16
+  pub image-long : length (u .nonce) ≤ 15 → (t : List ℕ) → length (image u t) ≡ length t + 16
   unfolding S sealed
   image-long short t = length-sealing (enciphers S (u .key)) (deciphers S (u .key)) (enciphers-blockwise S (u .key)) (u .nonce) short (u .header) t
+
+  pub image-one : length (u .key) ≡ 16 → length (u .nonce) ≤ 15 → (t₁ t₂ : List ℕ) → Bytes t₁ → Bytes t₂ → image u t₁ ≡ image u t₂ → t₁ ≡ t₂
+  unfolding S sealed
+  image-one l short t₁ t₂ b₁ b₂ q =
+      sealing-one (enciphers S (u .key)) (deciphers S (u .key)) (enciphers-blockwise S (u .key)) (deciphers-blockwise S (u .key)) (inverse l) (u .nonce) short nonce-bytes (u .header) t₁ t₂ b₁ b₂ q
+
+  -- sealed bytes agree in their tag and have the text t, if and only if they are t's image: of `open` and `verify` alike
+  module _ (s : List ℕ) (whole : length (u .key) ≡ 16) (short : length (u .nonce) ≤ 15) where
+    pub image-agrees : (t : List ℕ) → Bytes t → image u t ≡ s
+        → (agrees (u .cipher) (u .steps) (u .key) (u .nonce) (u .header) s ≡ true) × (opened (u .cipher) (u .steps) (u .key) (u .nonce) (u .header) s ≡ t)
+    unfolding S sealed opened agrees
+    image-agrees t bt q =
+        let o = open-sealed (enciphers S (u .key)) (deciphers S (u .key)) (enciphers-blockwise S (u .key)) (deciphers-blockwise S (u .key)) (inverse whole) (u .nonce) short nonce-bytes (u .header) s t bt q in
+        (ap (λ (l : List ℕ). sameBytes 16 l (drop (length s - 16) s)) (o .0) ∙ same-refl 16 (drop (length s - 16) s), o .1)
+
+    pub agrees-image : (t : List ℕ) → 16 ≤ length s → Bytes s → agrees (u .cipher) (u .steps) (u .key) (u .nonce) (u .header) s ≡ true
+        → opened (u .cipher) (u .steps) (u .key) (u .nonce) (u .header) s ≡ t → Bytes t × (image u t ≡ s)
+    unfolding S sealed opened agrees
+    agrees-image t long bs a q =
+        let e = enciphers S (u .key) in
+        let d = deciphers S (u .key) in
+        let tag : openingTag e d (u .nonce) (u .header) (ciphertext s) ≡ drop (length s - 16) s =
+        same-equal 16 (openingTag e d (u .nonce) (u .header) (ciphertext s)) (drop (length s - 16) s) (tag-long short (ciphertext s)) (length-drop (length s - 16) s ∙ omega arith) a in
+        open-exact e d (enciphers-blockwise S (u .key)) (deciphers-blockwise S (u .key)) (inverse whole) (u .nonce) short nonce-bytes (u .header) s t bs .0 (tag, q)
 
   module _ (s out : List ℕ) (op : Openable u s out) where
     A : Bool
@@ -101,63 +128,55 @@ module _ (u : Under) (key-bytes : Bytes (u .key)) (nonce-bytes : Bytes (u .nonce
     p : Passing (u .cipher) (u .steps) (length (u .key)) (length (u .nonce)) (length (u .header)) (length s) (length out)
     p = open-passed (u .cipher) (u .steps) (length (u .key)) (length (u .nonce)) (length (u .header)) (length s) (length out) op
 
-    answer : openReport (thenTag Done A) (length s - 16) ≡ openAnswer (u .cipher) (u .steps) (u .key) (u .nonce) (u .header) s out
-    unfolding S A
-    answer = open-done S (u .key) (u .nonce) (u .header) s out op .0
-
-    buffer : written (thenTag Done A) text out ≡ openBuffer (u .cipher) (u .steps) (u .key) (u .nonce) (u .header) s out
-    unfolding S A text
-    buffer = open-done S (u .key) (u .nonce) (u .header) s out op .1
-
     text-long : length text ≡ length s - 16
     unfolding S text
     text-long = opened-long S (u .key) (u .nonce) (u .header) s out (p .short) ∙ length-take-le (length s - 16) s (omega arith)
 
-    -- what is accepted agrees in its tag
+    -- the answer and the output, by what the comparison said
+    answer : (v : Bool) → A ≡ v → openReport (thenTag Done v) (length s - 16) ≡ openAnswer (u .cipher) (u .steps) (u .key) (u .nonce) (u .header) s out
+    unfolding S A
+    answer v e = ap (λ (b : Bool). openReport (thenTag Done b) (length s - 16)) (sym e) ∙ open-done S (u .key) (u .nonce) (u .header) s out op .0
+
+    buffer : (v : Bool) → A ≡ v → written (thenTag Done v) text out ≡ openBuffer (u .cipher) (u .steps) (u .key) (u .nonce) (u .header) s out
+    unfolding S A text
+    buffer v e = ap (λ (b : Bool). written (thenTag Done b) text out) (sym e) ∙ open-done S (u .key) (u .nonce) (u .header) s out op .1
+
+    accepted : (t : List ℕ) → A ≡ true → text ≡ t → Accepts u s out t
+    accepted t e q = (
+      sym (answer true e) ∙ ap Opened (sym text-long ∙ ap length q),
+      sym (buffer true e) ∙ ap (λ (l : List ℕ). l ++ drop (length l) out) q,
+    )
+
     agreed : (t : List ℕ) → Accepts u s out t → (A ≡ true) × (text ≡ t)
     unfolding told
     agreed t (a, b) = by A refl
       where
         by : (v : Bool) → A ≡ v → (A ≡ true) × (text ≡ t)
         by true e =
-            let n : length s - 16 ≡ length t = suc-inj (ap told (ap (λ (v : Bool). openReport (thenTag Done v) (length s - 16)) (sym e) ∙ answer ∙ a)) in
-            let both : text ++ drop (length text) out ≡ t ++ drop (length t) out = ap (λ (v : Bool). written (thenTag Done v) text out) (sym e) ∙ buffer ∙ b in
+            let n : length s - 16 ≡ length t = suc-inj (ap told (answer true e ∙ a)) in
+            let both : text ++ drop (length text) out ≡ t ++ drop (length t) out = buffer true e ∙ b in
             (e, sym (take-at text (drop (length text) out) (length t) (text-long ∙ n)) ∙ ap (take (length t)) both ∙ take-at t (drop (length t) out) (length t) refl)
         by false e =
-            let z : 0 ≡ suc (length t) = ap told (ap (λ (v : Bool). openReport (thenTag Done v) (length s - 16)) (sym e) ∙ answer ∙ a) in
+            let z : 0 ≡ suc (length t) = ap told (answer false e ∙ a) in
             absurd (omega arith)
 
-    -- and what agrees is accepted
-    accepted : (t : List ℕ) → A ≡ true → text ≡ t → Accepts u s out t
-    accepted t e q = (
-      sym (ap (λ (v : Bool). openReport (thenTag Done v) (length s - 16)) (sym e) ∙ answer) ∙ ap Opened (sym text-long ∙ ap length q),
-      sym (ap (λ (v : Bool). written (thenTag Done v) text out) (sym e) ∙ buffer) ∙ ap (λ (l : List ℕ). l ++ drop (length l) out) q,
-    )
+    answers : ((t : List ℕ) × Accepts u s out t) ⊎ Differs u s out
+    answers = by A refl
+      where
+        by : (v : Bool) → A ≡ v → ((t : List ℕ) × Accepts u s out t) ⊎ Differs u s out
+        by true e = inl (text, accepted text e refl)
+        by false e = inr (sym (answer false e), sym (buffer false e))
 
     image-accepted : (t : List ℕ) → Bytes t → image u t ≡ s → Accepts u s out t
-    unfolding S A text sealed opened agrees
-    image-accepted t bt q =
-        let e = enciphers S (u .key) in
-        let d = deciphers S (u .key) in
-        let o = open-sealed e d (enciphers-blockwise S (u .key)) (deciphers-blockwise S (u .key)) (inverse (p .key)) (u .nonce) (p .short) nonce-bytes (u .header) s t bt q in
-        accepted t (ap (λ (l : List ℕ). sameBytes 16 l (drop (length s - 16) s)) (o .0) ∙ same-refl 16 (drop (length s - 16) s)) (o .1)
+    unfolding A text
+    image-accepted t bt q = let o = image-agrees s (p .key) (p .short) t bt q in accepted t (o .0) (o .1)
 
     accepted-image : (t : List ℕ) → Bytes s → Accepts u s out t → Bytes t × (image u t ≡ s)
-    unfolding S A text sealed opened agrees
-    accepted-image t bs a =
-        let e = enciphers S (u .key) in
-        let d = deciphers S (u .key) in
-        let tag : openingTag e d (u .nonce) (u .header) (ciphertext s) ≡ drop (length s - 16) s =
-        same-equal 16 (openingTag e d (u .nonce) (u .header) (ciphertext s)) (drop (length s - 16) s) (tag-long (p .short) (ciphertext s)) (length-drop (length s - 16) s ∙ omega (arith, p .long)) (agreed t a .0) in
-        open-exact e d (enciphers-blockwise S (u .key)) (deciphers-blockwise S (u .key)) (inverse (p .key)) (u .nonce) (p .short) nonce-bytes (u .header) s t bs .0 (tag, agreed t a .1)
-
-  image-one : length (u .key) ≡ 16 → length (u .nonce) ≤ 15 → (t₁ t₂ : List ℕ) → Bytes t₁ → Bytes t₂ → image u t₁ ≡ image u t₂ → t₁ ≡ t₂
-  unfolding S sealed
-  image-one l short t₁ t₂ b₁ b₂ q =
-      sealing-one (enciphers S (u .key)) (deciphers S (u .key)) (enciphers-blockwise S (u .key)) (deciphers-blockwise S (u .key)) (inverse l) (u .nonce) short nonce-bytes (u .header) t₁ t₂ b₁ b₂ q
+    unfolding A text
+    accepted-image t bs a = agrees-image s (p .key) (p .short) t (p .long) bs (agreed t a .0) (agreed t a .1)
 
   -- what was sealed can be opened wherever there is room
-  image-openable : (t out room : List ℕ) → sealOutcome (u .cipher) (u .steps) (u .key) (u .nonce) (u .header) t out ≡ Done → length t ≤ length room → Openable u (image u t) room
+  image-openable : (t out room : List ℕ) → Sealable u t out → length t ≤ length room → Openable u (image u t) room
   unfolding sealOutcome
   image-openable t out room done h =
       let q = seal-passed (u .cipher) (u .steps) (length (u .key)) (length (u .nonce)) (length (u .header)) (length t) (length out) done in
@@ -166,10 +185,25 @@ module _ (u : Under) (key-bytes : Bytes (u .key)) (nonce-bytes : Bytes (u .nonce
       open-passes (u .cipher) (u .steps) (length (u .key)) (length (u .nonce)) (length (u .header)) (length (image u t)) (length room)
       (record { suite = q .suite; key = q .key; nonce = q .nonce; short = q .short; header = q .header; long = omega arith; text = rw m (q .text); room = omega arith })
 
-  pub demand2 : Demand2 u
-  demand2 =
-      record {
-        exact = λ s out t bs op. (accepted-image s out op t bs, λ i. image-accepted s out op t (i .0) (i .1));
-        one = λ s out t₁ t₂ op b₁ b₂ q₁ q₂. image-one (p s out op .key) (p s out op .short) t₁ t₂ b₁ b₂ (q₁ ∙ sym q₂);
-        back = λ t out room bt done h. image-accepted (image u t) room (image-openable t out room done h) t bt refl;
-      }
+  seal-short : (t out : List ℕ) → Sealable u t out → length (u .nonce) ≤ 15
+  unfolding sealOutcome
+  seal-short t out done = seal-passed (u .cipher) (u .steps) (length (u .key)) (length (u .nonce)) (length (u .header)) (length t) (length out) done .short
+
+  image-made : (t out : List ℕ) → Sealable u t out
+      → (sealAnswer (u .cipher) (u .steps) (u .key) (u .nonce) (u .header) t out ≡ Sealed (length t + 16) (length (calls (u .nonce) (u .header) t)))
+      × (sealBuffer (u .cipher) (u .steps) (u .key) (u .nonce) (u .header) t out ≡ image u t ++ drop (length t + 16) out)
+  unfolding sealAnswer sealBuffer
+  image-made t out done = (
+    ap (λ (a : Answer). sealReport a (length t + 16) (length (calls (u .nonce) (u .header) t))) done,
+    ap (λ (a : Answer). written a (image u t) out) done ∙ ap (λ (n : ℕ). image u t ++ drop n out) (image-long (seal-short t out done) t),
+  )
+
+pub demand2 : Demand2
+demand2 u bk bn =
+    record {
+      made = image-made u bk bn;
+      answered = answers u bk bn;
+      exact = λ s out t bs op. (accepted-image u bk bn s out op t bs, λ i. image-accepted u bk bn s out op t (i .0) (i .1));
+      one = λ s out t₁ t₂ op b₁ b₂ q₁ q₂. image-one u bk bn (p u bk bn s out op .key) (p u bk bn s out op .short) t₁ t₂ b₁ b₂ (q₁ ∙ sym q₂);
+      back = λ t out room bt done h. image-accepted u bk bn (image u t) room (image-openable u bk bn t out room done h) t bt refl;
+    }

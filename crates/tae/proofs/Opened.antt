@@ -16,7 +16,7 @@ use Rattle.rounds.specs.Blocks.{block, strung}
 use Rattle.cipher.specs.declared.refusal.Answer.the-variants.{Done, Refused}
 use Rattle.cipher.specs.declared.refusal.Refusal.the-variants.{TagDiffers}
 use Rattle.cipher.specs.declared.suite.Suite.{Suite}
-use Rattle.mode.specs.Sums.{sameBytes}
+use Rattle.bits.specs.Bytes.{sameBytes}
 use Rattle.mode.specs.Text.{Part}
 use Rattle.mode.specs.Under.{enciphers, deciphers}
 use Rattle.mode.proofs.Chunks.{block-taken, enciphers-blockwise, deciphers-blockwise}

@@ -9,7 +9,7 @@ use Rattle.cipher.specs.declared.refusal.Answer.the-variants.{Done, Refused}
 use Rattle.cipher.specs.declared.refusal.Refusal.the-variants.{TagDiffers}
 use Rattle.cipher.specs.Suite.{cipherOf}
 use Rattle.limits.specs.Tests.{unless, openTests}
-use Rattle.mode.specs.Sums.{sameBytes}
+use Rattle.bits.specs.Bytes.{sameBytes}
 use Rattle.rounds.specs.Cipher.{encipher, decipher}
 use Rattle.tae.specs.declared.open.OpenAnswer.{OpenAnswer}
 use Rattle.tae.specs.declared.open.OpenAnswer.the-variants.{Opened, Refused as OpenRefused}

@@ -8,14 +8,14 @@ use Rattle.cipher.specs.declared.refusal.Answer.{Answer}
 use Rattle.cipher.specs.declared.refusal.Answer.the-variants.{Done, Refused}
 use Rattle.cipher.specs.Suite.{cipherOf}
 use Rattle.limits.specs.Tests.{sealTests}
-use Rattle.rounds.specs.Cipher.{encipher, decipher}
+use Rattle.rounds.specs.Cipher.{encipher}
 use Rattle.tae.specs.declared.seal.SealAnswer.{SealAnswer}
 use Rattle.tae.specs.declared.seal.SealAnswer.the-variants.{Sealed, Refused as SealRefused}
 
 -- the sealed bytes of a text, ciphertext and tag, under a suite, a key, a nonce and a header
 unfoldable pub sealed : ℕ → ℕ → List ℕ → List ℕ → List ℕ → List ℕ → List ℕ
 sealed cipher steps key nonce header text =
-    sealing (encipher (cipherOf cipher) steps key) (decipher (cipherOf cipher) steps key) nonce header text
+    sealing (encipher (cipherOf cipher) steps key) nonce header text
 
 -- "Seal and open write only that result at the output's start"; "left as it was: output"
 abbrev pub written : Answer → List ℕ → List ℕ → List ℕ

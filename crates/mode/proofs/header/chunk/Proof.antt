@@ -17,7 +17,7 @@ returns c =
     let start = tweaked .before .before .before .before in
     let a = start .args in
     c .add-blocks .ensures
-    ∙ chunk-sum (a .suite) (a .key) (start .pre .0) (a .first) (a .k) (a .header .now) (a .sum) (start .pre .2) _ _ _
+    ∙ chunk-sum (a .suite) (a .key) (start .pre .0) (a .first .0) (a .k) (a .header .now) (a .sum) (start .pre .2) _ _ _
     (c .before .before .before .encipher-blocks .ensures .1
     ∙ (λ j. encipheredBlocks (a .suite .cipher) (a .suite .steps) (a .key) (take (16 * a .k) (tweaked .header-tweaks .ensures j)) (copied .copy .ensures j)))
 

@@ -58,6 +58,6 @@ inner-spec =
     (λ c. omega arith)
     chunk-requires
     (λ c. omega arith)
-    (λ c. omega (arith, c .before .before .few .ensures .2 (omega arith)))
+    (λ c. omega arith)
     loop-again
     returns)

@@ -7,7 +7,7 @@ use native.Mathlib.Omega.{arith}
 use borrow.Author.Needs.{needs}
 use lib.Dec.{eqb}
 use lib.ListN.{getD}
-use Rattle.mode.specs.Sums.{sameBytes}
+use Rattle.bits.specs.Bytes.{sameBytes}
 use Rattle.mode.proofs.Sums.{differs-more}
 use Rattle.mode.proofs.tag.same.Statement.{statement}
 use Rattle.mode.proofs.tag.same.Tie as tie

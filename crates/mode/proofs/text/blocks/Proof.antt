@@ -16,24 +16,24 @@ use Rattle.mode.proofs.text.blocks.Statement.{statement}
 use Rattle.mode.proofs.text.blocks.Tie as tie
 
 abbrev Inv-loop : tie.InvT-loop
-Inv-loop ahead suite key nonce first s₀ n done₀ s done =
-    (done ≤ n) × (s ≡ strung done (λ i. either ahead suite key (textTweak nonce (first + i)) (block s₀ i)) ++ drop (16 * done) s₀)
+Inv-loop ahead suite key nonce s₀ number n done₀ s done =
+    (done ≤ n) × (s ≡ strung done (λ i. either ahead suite key (textTweak nonce (number + i)) (block s₀ i)) ++ drop (16 * done) s₀)
 
 abbrev μ-loop : tie.MeasureT-loop
-μ-loop ahead suite key nonce first s₀ n done₀ s done = n - done
+μ-loop ahead suite key nonce s₀ number n done₀ s done = n - done
 
 -- what the blocks become, by their number
 module _ (c : tie.At-loop Inv-loop μ-loop) where
   each : ℕ → List ℕ → List ℕ
   each i b =
       let a = c .before .before .before .args in
-      either (a .ahead) (a .suite) (a .key) (textTweak (a .nonce .now) (a .first + i)) b
+      either (a .ahead) (a .suite) (a .key) (textTweak (a .nonce .now) (a .first .0 + i)) b
 
   long : (i : ℕ) (b : List ℕ) → length b ≡ 16 → length (each i b) ≡ 16
   unfolding each
   long i b h =
       let a = c .before .before .before .args in
-      either-blockwise (a .ahead) (a .suite) (a .key) .long (textTweak (a .nonce .now) (a .first + i)) b (length-tweak (a .nonce .now) 0x00 (a .first + i) (omega arith)) h
+      either-blockwise (a .ahead) (a .suite) (a .key) .long (textTweak (a .nonce .now) (a .first .0 + i)) b (length-tweak (a .nonce .now) 0x00 (a .first .0 + i) (omega arith)) h
 
   kept : length (c .loop .s) ≡ length (c .before .before .before .args .s .now)
   unfolding each
@@ -55,7 +55,7 @@ chunk-requires : tie.Need-chunk-requires Inv-loop μ-loop
 chunk-requires c κs =
     let h = c .before .before .before in
     let p = h .before .before .before in
-    (p .pre .0, c .before .few .ensures .1, rw (part h, length-drop) (omega (arith, c .before .few .ensures .0)), omega (arith, c .before .few .ensures .0))
+    (p .pre .0, omega arith, rw (part h, length-drop) (omega arith), omega arith)
 
 loop-again : tie.Need-loop-again Inv-loop μ-loop
 unfolding each
@@ -69,7 +69,7 @@ loop-again c =
     let front : take (16 * n) (h .loop .s) ≡ strung n (λ i. each h i (block s i)) = ap (take (16 * n)) (h .loop .inv .1) ∙ done-is (each h) (long h) s n k room in
     let new : c .before .before .chunk .last .1 .1 .1 .1 .1 .1 .0 ≡ strung k (λ i. each h (n + i) (block (drop (16 * n) s) i)) ++ drop (16 * k) (drop (16 * n) s) =
     c .before .before .chunk .ensures
-    ∙ (λ j. strung k (λ i. either (a .ahead) (a .suite) (a .key) (textTweak (a .nonce .now) (add-assoc (a .first) n i j)) (block (part h j) i)) ++ drop (16 * k) (part h j)) in (
+    ∙ (λ j. strung k (λ i. either (a .ahead) (a .suite) (a .key) (textTweak (a .nonce .now) (add-assoc (a .first .0) n i j)) (block (part h j) i)) ++ drop (16 * k) (part h j)) in (
       omega arith,
       (λ j. front j ++ (new j ++ part-none (16 * n) (h .loop .s) j))
           ∙ ap (λ l. strung n (λ i. each h i (block s i)) ++ l) (append-nil (strung k (λ i. each h (n + i) (block (drop (16 * n) s) i)) ++ drop (16 * k) (drop (16 * n) s)))
@@ -81,7 +81,7 @@ returns c =
     let h = c .before in
     let a = h .before .before .before .args in
     let e : h .loop .done ≡ length (a .s .now) / 16 = omega arith in
-    h .loop .inv .1 ∙ ap (λ n. strung n (λ i. either (a .ahead) (a .suite) (a .key) (textTweak (a .nonce .now) (a .first + i)) (block (a .s .now) i)) ++ drop (16 * n) (a .s .now)) e
+    h .loop .inv .1 ∙ ap (λ n. strung n (λ i. either (a .ahead) (a .suite) (a .key) (textTweak (a .nonce .now) (a .first .0 + i)) (block (a .s .now) i)) ++ drop (16 * n) (a .s .now)) e
 
 pub blocks-spec : {M : Type 1} → statement M
 blocks-spec =
@@ -99,7 +99,7 @@ blocks-spec =
     (λ c. omega arith)
     chunk-requires
     (λ c. omega arith)
-    (λ c. let some = c .before .before .before .before .few .ensures .2 (omega arith) in omega (arith, some))
+    (λ c. omega arith)
     loop-again
     (λ c. kept (c .before))
     returns)

@@ -18,13 +18,13 @@ use Rattle.mode.proofs.text.chunk.Tie as tie
 -- the tweaks that were made, and what stands behind them
 module _ (c : tie.After-tweaks2) where
   tweaks : ℕ → List ℕ
-  tweaks i = textTweak (c .before .before .before .before .before .args .nonce .now) (c .before .before .before .before .before .args .first + i)
+  tweaks i = textTweak (c .before .before .before .before .before .args .nonce .now) (c .before .before .before .before .before .args .first .0 + i)
 
   long : (i : ℕ) → length (tweaks i) ≡ 16
   unfolding tweaks
   long i =
       let a = c .before .before .before .before .before .args in
-      length-tweak (a .nonce .now) 0x00 (a .first + i) (omega arith)
+      length-tweak (a .nonce .now) 0x00 (a .first .0 + i) (omega arith)
 
   rest : List ℕ
   rest = drop (16 * c .before .before .before .before .before .args .k) (replicate 1024 0)

@@ -9,7 +9,7 @@ use lib.ListN.{length, take, drop}
 use lib.Seq.{length-take-le}
 use Rattle.calls.specs.Pieces.{through}
 use Rattle.cipher.specs.declared.suite.Suite.{Suite}
-use Rattle.mode.specs.Sums.{sameBytes}
+use Rattle.bits.specs.Bytes.{sameBytes}
 use Rattle.mode.specs.Under.{enciphers, deciphers}
 use Rattle.tae.specs.Open.{ciphertext, agrees}
 use Rattle.tae.proofs.Opened.{work-kept, work-front, window-long, with-tag, without-tag, agrees-is}

@@ -8,7 +8,7 @@ use lib.Dec.{lit≤}
 use lib.ListN.{length, getD, take}
 use lib.Seq.{length-take-le}
 use Rattle.cipher.specs.declared.refusal.Answer.the-variants.{Done}
-use Rattle.mode.specs.Sums.{sameBytes}
+use Rattle.bits.specs.Bytes.{sameBytes}
 use Rattle.tae.specs.Open.{ciphertext, opened, agrees, thenTag}
 use Rattle.tae.specs.Verify.{verifyReport}
 use Rattle.tae.specs.declared.verify.VerifyAnswer.the-variants.{Agrees}
