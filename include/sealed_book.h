@@ -45,7 +45,8 @@ uint32_t sb_decipher_blocks(uint8_t cipher, uint8_t steps, const uint8_t key[16]
 
 /* Seals a text under a key of 16 bytes, a nonce of n = 1 to 15 bytes and a header that is sealed along and not hidden: writes
  * text_len + 16 bytes, ciphertext then tag, to the start of out, and leaves every other byte of out as it was. *len is then
- * text_len + 16, *calls the number of cipher calls made. A nonce must never be used twice under one key.
+ * text_len + 16, *calls the number of cipher calls made. A nonce must never be used twice under one key, and all nonces under
+ * one key must have the same length.
  * Limits: header min(2^(130 - 8n), 2^24) bytes, text min(2^(131 - 8n), 2^24). A slice of length 0 may be null.
  * Refusals, the first that applies: 1, 2, 3, 4, 6, 7; then out, *len and *calls are as they were. */
 uint32_t sb_seal(uint8_t cipher, uint8_t steps, const uint8_t *key, size_t key_len, const uint8_t *nonce, size_t nonce_len,
@@ -54,7 +55,7 @@ uint32_t sb_seal(uint8_t cipher, uint8_t steps, const uint8_t *key, size_t key_l
 
 /* Opens what sb_seal has sealed under the same suite, key, nonce and header: writes the text, sealed_len - 16 bytes, to the
  * start of out, and leaves every other byte of out as it was. *len is then the text's length. Nothing is written before the
- * tag has been compared in full.
+ * tag has been compared in full. The limits are those of sb_seal. A slice of length 0 may be null.
  * Refusals, the first that applies: 1, 2, 3, 4, 5, 6, 7, 8; then out and *len are as they were. */
 uint32_t sb_open(uint8_t cipher, uint8_t steps, const uint8_t *key, size_t key_len, const uint8_t *nonce, size_t nonce_len,
                  const uint8_t *header, size_t header_len, const uint8_t *sealed, size_t sealed_len,
