@@ -1,13 +1,11 @@
 -- Strings of bytes added by xor.
 use mathlib.Core.Path.{_≡_, refl, ap}
-use mathlib.Core.List.{List, [], _∷_, _++_, zipWith}
-use Prim.Native.Nat.{ℕ, zero, suc, _≤_, _<_, _^_, min}
-use native.Mathlib.Nat.{le-of-suc-le-suc, not-suc-le-zero, suc-inj}
-use native.Mathlib.Omega.{arith}
-use lib.Bits.{bitXor, xor-comm, xor-zero-r, xor-zero-l, xor-lt}
-use lib.ListN.{length, getD, replicate, take, drop}
+use mathlib.Core.List.{List, [], _∷_, zipWith}
+use Prim.Native.Nat.{ℕ, zero, suc, _≤_, _<_}
+use native.Mathlib.Nat.{le-of-suc-le-suc, not-suc-le-zero}
+use lib.Bits.{bitXor, xor-comm, xor-zero-r, xor-lt}
+use lib.ListN.{length, getD, replicate}
 use Rattle.bits.specs.Bytes.{added, Bytes}
-use Rattle.bits.specs.Table.{tab}
 use Rattle.bits.proofs.Bits.{xor-assoc, xor-twice}
 
 pub length-added : (x y : List ℕ) → length x ≤ length y → length (added x y) ≡ length x

@@ -1,6 +1,6 @@
 -- Sums and comparisons of blocks.
 use mathlib.Core.Path.{_≡_, refl, sym, ap, _∙_}
-use mathlib.Core.Bool.{Bool, true, false, _&&_}
+use mathlib.Core.Bool.{Bool, _&&_}
 use mathlib.Core.List.{List, [], _∷_, _++_}
 use Prim.Native.Nat.{ℕ, zero, suc, _+_, _-_, _*_, _/_, _≤_, _<_}
 use native.Mathlib.Decide.{ℕ-discrete}
@@ -8,7 +8,7 @@ use native.Mathlib.Nat.{add-zero, add-suc}
 use native.Mathlib.Numerals.{add-one}
 use native.Mathlib.Omega.{arith}
 use borrow.Author.Tests.{eq-eqb, ne-eqb}
-use lib.Bits.{bitOr, bitXor, bitAnd, or-add-and, and-le-l, and-le-r, xor-self}
+use lib.Bits.{bitOr, bitXor, or-add-and, and-le-l, and-le-r, xor-self}
 use lib.Dec.{eqb}
 use lib.ListN.{length, getD, set, take, drop, replicate, length-drop, drop-of-length-le}
 use lib.Seq.{set-at, take-all, take-at, drop-cons, take-append-add}
@@ -20,7 +20,6 @@ use Rattle.bits.proofs.Fronts.{drop-zeros}
 use Rattle.rounds.specs.Blocks.{block}
 use Rattle.rounds.proofs.Each.{block-long}
 use Rattle.mode.specs.Sums.{sumFrom}
-use Rattle.bits.specs.Bytes.{sameBytes}
 
 -- differences gathered so far, and one byte of each more
 or-test : (d z : ℕ) → eqb (bitOr d z) 0 ≡ (eqb d 0 && eqb z 0)

@@ -2,7 +2,7 @@
 ghost use mathlib.Core.Path.{_≡_};
 ghost use mathlib.Core.List.{_++_};
 ghost use Prim.Native.Nat.{_/_, _≤_};
-ghost use lib.ListN.{length, take, drop};
+ghost use lib.ListN.{length, drop};
 ghost use Rattle.bits.specs.Bytes.{added};
 ghost use Rattle.calls.specs.Calls.{filled};
 ghost use Rattle.calls.specs.Tweak.{blocksOf};

@@ -1,7 +1,7 @@
 -- Demand 2 holds.
 use mathlib.Core.Path.{_≡_, refl, sym, ap, _∙_}
 use mathlib.Core.Bool.{Bool, true, false, _&&_, false≢true}
-use mathlib.Core.Logic.{_↔_, _⊎_, inl, inr}
+use mathlib.Core.Logic.{_⊎_, inl, inr}
 use mathlib.Core.List.{List, _++_}
 use Prim.Native.Nat.{ℕ, zero, suc, _+_, _-_, _≤_, _<_}
 use native.Mathlib.Decide.{ℕ-discrete}
@@ -14,8 +14,8 @@ use lib.Seq.{ext-getD, take-at, length-take-le}
 use Rattle.bits.specs.Bytes.{Bytes}
 use Rattle.calls.specs.Calls.{checksum, calls}
 use Rattle.calls.specs.Pieces.{through, headerSum}
-use Rattle.calls.specs.Sealing.{sealing, opening, openingTag}
-use Rattle.calls.proofs.ByBlocks.{opening-is, openingTag-is, length-tagFrom, length-checksum, length-headerSum, length-sealing, length-through}
+use Rattle.calls.specs.Sealing.{openingTag}
+use Rattle.calls.proofs.ByBlocks.{openingTag-is, length-tagFrom, length-checksum, length-headerSum, length-sealing}
 use Rattle.calls.proofs.Exact.{Inverse, open-exact, open-sealed, sealing-one}
 use Rattle.cipher.specs.declared.refusal.Answer.the-variants.{Done}
 use Rattle.cipher.specs.declared.refusal.Answer.{Answer}
@@ -27,7 +27,7 @@ use Rattle.mode.specs.Under.{enciphers, deciphers}
 use Rattle.mode.proofs.Chunks.{enciphers-blockwise, deciphers-blockwise}
 use Rattle.rounds.proofs.Inverse.{encipher-block, decipher-block, decipher-encipher, encipher-decipher}
 use Rattle.state.specs.Block.{Block}
-use Rattle.tae.specs.Demand2.{Context, image, Sealable, Openable, Accepts, Differs, Holds, Demand2}
+use Rattle.tae.specs.Demand2.{Context, image, Sealable, Openable, Accepts, Differs, Demand2}
 use Rattle.tae.specs.Open.{ciphertext, opened, agrees, thenTag, openReport, openAnswer, openBuffer}
 use Rattle.tae.specs.Seal.{sealed, sealOutcome, sealReport, sealAnswer, sealBuffer, written}
 use Rattle.tae.specs.declared.open.OpenAnswer.{OpenAnswer}

@@ -1,19 +1,19 @@
 -- A part of a ciphertext: its blocks, its text, and the sum of that text's blocks.
 use mathlib.Core.Path.{_≡_, refl, sym, ap, _∙_}
-use mathlib.Core.Bool.{Bool, true}
+use mathlib.Core.Bool.{true}
 use mathlib.Core.Logic.{_⊎_, inl, inr}
-use mathlib.Core.List.{List, [], _++_, append-nil}
-use Prim.Native.Nat.{ℕ, zero, suc, _+_, _-_, _*_, _/_, _%_, _^_, _≤_, _<_, min}
+use mathlib.Core.List.{List, _++_, append-nil}
+use Prim.Native.Nat.{ℕ, _+_, _-_, _*_, _/_, _%_, _^_, _≤_, _<_, min}
 use native.Mathlib.Decide.{ℕ-discrete}
 use native.Mathlib.Nat.{le-of-eq}
 use native.Mathlib.Omega.{arith}
-use lib.ListN.{length, take, drop, replicate, length-drop, length-take, drop-of-length-le, length-replicate}
+use lib.ListN.{length, take, drop, replicate, length-drop, drop-of-length-le, length-replicate}
 use lib.Seq.{take-all, take-length, drop-drop, length-take-le}
 use Rattle.calls.specs.Calls.{filled, sumOf, checksum}
 use Rattle.calls.specs.Pieces.{piece, through}
 use Rattle.calls.specs.Tweak.{blocksOf, inner}
 use Rattle.calls.proofs.ByBlocks.{inner-long, length-piece, length-through-part}
-use Rattle.calls.proofs.Strung.{strung-ext, strung-add, block-of-strung, block-short}
+use Rattle.calls.proofs.Strung.{block-of-strung, block-short}
 use Rattle.cipher.specs.declared.suite.Suite.{Suite}
 use Rattle.rounds.specs.Blocks.{block, strung}
 use Rattle.rounds.proofs.Each.{block-long}

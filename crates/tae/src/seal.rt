@@ -7,7 +7,6 @@ ghost use mathlib.Core.Path.{_≡_};
 ghost use mathlib.Core.List.{_++_};
 ghost use Prim.Native.Nat.{_+_, _≤_};
 ghost use lib.ListN.{length, drop};
-ghost use Rattle.mode.specs.Text.{Usable};
 ghost use Rattle.tae.specs.Passes.{Passable};
 ghost use Rattle.tae.specs.Seal.{sealed, sealAnswer, sealBuffer};
 

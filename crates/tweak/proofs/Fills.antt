@@ -1,12 +1,12 @@
 -- Strings that a loop fills from the back, and block by block.
-use mathlib.Core.Path.{_≡_, refl, sym, ap, _∙_}
-use mathlib.Core.List.{List, [], _∷_, _++_, append-assoc}
-use Prim.Native.Nat.{ℕ, zero, suc, _+_, _-_, _*_, _/_, _%_, _^_, _≤_, _<_}
+use mathlib.Core.Path.{_≡_, sym, ap, _∙_}
+use mathlib.Core.List.{List, _∷_, _++_}
+use Prim.Native.Nat.{ℕ, suc, _+_, _-_, _*_, _/_, _%_, _^_, _≤_, _<_}
 use native.Mathlib.Nat.{le-of-eq, div-div-eq-div-mul, pow-suc}
 use native.Mathlib.Numerals.{add-one}
 use native.Mathlib.Omega.{arith}
-use lib.ListN.{length, getD, set, take, drop, replicate, length-append}
-use lib.Seq.{paste, getD-at, set-at, take-at, drop-at, take-suc, take-all, drop-cons, drop-drop, append-snoc, take-append-seam, length-take-le}
+use lib.ListN.{length, getD, set, take, drop}
+use lib.Seq.{paste, getD-at, set-at, take-at, drop-at, take-suc, take-all, drop-drop, append-snoc, take-append-seam, length-take-le}
 use Rattle.bits.specs.Bytes.{bigEndian}
 use Rattle.calls.specs.Tweak.{tweak}
 use Rattle.bits.proofs.BigEndian.{bigEndian-marked}

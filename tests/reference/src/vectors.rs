@@ -2,6 +2,19 @@
 
 use crate::state::Block;
 
+/// The lines of a file that are no comments, with their numbers from 1, each cut into `n` fields.
+fn cases<'a>(name: &str, file: &'a str, n: usize) -> Vec<(usize, Vec<&'a str>)> {
+    let lines = file.lines().enumerate();
+    let cases = lines.filter(|(_, line)| !line.starts_with('#'));
+    cases
+        .map(|(i, line)| {
+            let fields: Vec<&str> = line.split(' ').collect();
+            assert_eq!(fields.len(), n, "{name}, line {}", i + 1);
+            (i + 1, fields)
+        })
+        .collect()
+}
+
 /// A line of cipher.txt.
 pub struct CipherVector {
     /// The line's number in the file, from 1.
@@ -17,15 +30,10 @@ pub struct CipherVector {
 /// Every line of cipher.txt but the comments: suite, key, tweak, block and enciphered block in hex.
 pub fn cipher_vectors() -> Vec<CipherVector> {
     let mut vectors = Vec::new();
-    for (i, line) in include_str!("../../vectors/cipher.txt").lines().enumerate() {
-        if line.starts_with('#') {
-            continue;
-        }
-        let fields: Vec<&str> = line.split(' ').collect();
-        assert_eq!(fields.len(), 5, "cipher.txt, line {}", i + 1);
+    for (line, fields) in cases("cipher.txt", include_str!("../../vectors/cipher.txt"), 5) {
         let [cipher, steps] = hex(fields[0]);
         vectors.push(CipherVector {
-            line: i + 1,
+            line,
             cipher,
             steps,
             key: hex(fields[1]),
@@ -55,15 +63,10 @@ pub struct SealVector {
 /// and the number of calls.
 pub fn seal_vectors() -> Vec<SealVector> {
     let mut vectors = Vec::new();
-    for (i, line) in include_str!("../../vectors/seal.txt").lines().enumerate() {
-        if line.starts_with('#') {
-            continue;
-        }
-        let fields: Vec<&str> = line.split(' ').collect();
-        assert_eq!(fields.len(), 7, "seal.txt, line {}", i + 1);
+    for (line, fields) in cases("seal.txt", include_str!("../../vectors/seal.txt"), 7) {
         let [cipher, steps] = hex(fields[0]);
         vectors.push(SealVector {
-            line: i + 1,
+            line,
             cipher,
             steps,
             key: hex(fields[1]),
@@ -95,15 +98,10 @@ pub struct OpenVector {
 /// or `refused:` and a number in place of the text.
 pub fn open_vectors() -> Vec<OpenVector> {
     let mut vectors = Vec::new();
-    for (i, line) in include_str!("../../vectors/open.txt").lines().enumerate() {
-        if line.starts_with('#') {
-            continue;
-        }
-        let fields: Vec<&str> = line.split(' ').collect();
-        assert_eq!(fields.len(), 6, "open.txt, line {}", i + 1);
+    for (line, fields) in cases("open.txt", include_str!("../../vectors/open.txt"), 6) {
         let [cipher, steps] = hex(fields[0]);
         vectors.push(OpenVector {
-            line: i + 1,
+            line,
             cipher,
             steps,
             key: hex(fields[1]),

@@ -1,5 +1,5 @@
 -- By cases on the answer.
-use mathlib.Core.Path.{_≡_, sym, ap, _∙_}
+use mathlib.Core.Path.{sym, ap, _∙_}
 use borrow.Author.Needs.{needs}
 use Rattle.sealed_book.specs.Returned.{openReturned, openLength}
 use Rattle.sealed_book.proofs.sb_open.Statement.{statement}

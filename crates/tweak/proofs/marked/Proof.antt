@@ -1,10 +1,10 @@
 -- The mark goes into the first byte of the number.
 use mathlib.Core.Path.{_≡_, sym, ap, _∙_}
-use mathlib.Core.List.{List, _∷_, _++_}
-use Prim.Native.Nat.{ℕ, suc, _+_, _-_, _*_, _/_, _%_, _^_}
+use mathlib.Core.List.{_++_}
+use Prim.Native.Nat.{suc, _+_, _-_, _*_, _%_, _^_}
 use native.Mathlib.Omega.{arith}
 use borrow.Author.Needs.{needs}
-use lib.ListN.{length, getD, set, take}
+use lib.ListN.{getD, set, take}
 use Rattle.bits.specs.Bytes.{bigEndian}
 use Rattle.tweak.proofs.Fills.{mark-more}
 use Rattle.tweak.proofs.marked.Statement.{statement}

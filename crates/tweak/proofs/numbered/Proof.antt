@@ -1,10 +1,10 @@
 -- The loop writes the number from its lowest byte on.
 use mathlib.Core.Path.{_≡_, sym, ap, _∙_}
-use mathlib.Core.List.{List, _++_, append-nil}
-use Prim.Native.Nat.{ℕ, suc, _-_, _/_, _%_, _^_, _≤_}
+use mathlib.Core.List.{_++_, append-nil}
+use Prim.Native.Nat.{suc, _-_, _/_, _%_, _^_, _≤_}
 use native.Mathlib.Omega.{arith}
 use borrow.Author.Needs.{needs}
-use lib.ListN.{length, set, take}
+use lib.ListN.{set, take}
 use lib.Seq.{take-all}
 use Rattle.bits.specs.Bytes.{bigEndian}
 use Rattle.tweak.proofs.Fills.{number-more, number-rest}

@@ -1,9 +1,9 @@
 -- The whole blocks, and then the last if it is shorter.
-use mathlib.Core.Path.{_≡_, sym, ap, _∙_}
-use Prim.Native.Nat.{ℕ, _*_, _/_}
+use mathlib.Core.Path.{_≡_, ap, _∙_}
+use Prim.Native.Nat.{_*_, _/_}
 use native.Mathlib.Omega.{arith}
 use borrow.Author.Needs.{needs}
-use lib.ListN.{length, take, drop, length-drop}
+use lib.ListN.{length, drop}
 use Rattle.bits.specs.Bytes.{added}
 use Rattle.calls.specs.Calls.{filled}
 use Rattle.mode.proofs.Sums.{part-rest, all-whole, all-but-last}

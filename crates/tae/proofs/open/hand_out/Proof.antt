@@ -1,14 +1,13 @@
 -- The first window is copied; what follows it is deciphered in the output itself.
-use mathlib.Core.Path.{_≡_, refl, sym, ap, _∙_}
+use mathlib.Core.Path.{_≡_, sym, ap, _∙_}
 use mathlib.Core.Logic.{inl}
-use mathlib.Core.List.{List, _++_, append-assoc}
-use Prim.Native.Nat.{ℕ, _+_, _-_, _*_, _/_, _%_, _≤_, _<_, min}
+use mathlib.Core.List.{_++_, append-assoc}
+use Prim.Native.Nat.{_+_, _-_, _*_, _/_}
 use native.Mathlib.Omega.{arith}
 use borrow.Author.Needs.{needs}
 use lib.ListN.{length, take, drop, length-append, length-drop}
 use lib.Seq.{length-take-le, take-length, take-at, drop-at, drop-drop}
 use Rattle.calls.specs.Pieces.{through}
-use Rattle.mode.specs.Text.{Part}
 use Rattle.mode.specs.Under.{enciphers, deciphers}
 use Rattle.mode.proofs.Sums.{part-rest}
 use Rattle.tae.proofs.Opened.{through-split}

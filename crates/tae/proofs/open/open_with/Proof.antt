@@ -1,14 +1,11 @@
 -- The tag is made, compared, and only then is anything handed out.
 use mathlib.Core.Path.{_≡_, sym, ap, _∙_}
-use mathlib.Core.Bool.{Bool}
-use mathlib.Core.List.{List, _++_}
-use Prim.Native.Nat.{ℕ, _-_, _%_, _≤_, min}
+use Prim.Native.Nat.{_-_, _%_, min}
 use native.Mathlib.Omega.{arith}
 use borrow.Author.Needs.{needs}
-use lib.ListN.{length, take, drop}
+use lib.ListN.{length, take}
 use lib.Seq.{length-take-le}
 use Rattle.calls.specs.Pieces.{through}
-use Rattle.cipher.specs.declared.suite.Suite.{Suite}
 use Rattle.bits.specs.Bytes.{sameBytes}
 use Rattle.mode.specs.Under.{enciphers, deciphers}
 use Rattle.tae.specs.Open.{ciphertext, agrees}

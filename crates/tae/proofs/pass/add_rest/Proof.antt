@@ -1,12 +1,10 @@
 -- The loop has added the first blocks, at most 64 at each turn.
 use mathlib.Core.Path.{_≡_, refl, sym, ap, _∙_}
-use Prim.Native.Nat.{ℕ, _+_, _-_, _*_, _≤_, min}
+use Prim.Native.Nat.{_+_, _-_, _≤_}
 use native.Mathlib.Omega.{arith}
 use borrow.Author.Needs.{needs}
-use lib.ListN.{length, take}
-use lib.Seq.{length-take-le}
+use lib.ListN.{length}
 use Rattle.calls.specs.Tweak.{blocksOf}
-use Rattle.mode.specs.Text.{Part}
 use Rattle.tae.specs.Passes.{textSum}
 use Rattle.tae.proofs.Windows.{part-of-rest}
 use Rattle.tae.proofs.pass.add_rest.Statement.{statement}

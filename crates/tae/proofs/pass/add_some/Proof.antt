@@ -1,7 +1,6 @@
 -- By what it calls.
-use mathlib.Core.Path.{_≡_, sym, ap, _∙_}
-use Prim.Native.Nat.{ℕ, _+_}
-use native.Mathlib.Omega.{arith}
+use mathlib.Core.Path.{sym, ap, _∙_}
+use Prim.Native.Nat.{_+_}
 use borrow.Author.Needs.{needs}
 use Rattle.calls.specs.Tweak.{blocksOf}
 use Rattle.tae.specs.Passes.{textSum}

@@ -1,7 +1,7 @@
 -- The first window stays in `work`; the other blocks are only added.
-use mathlib.Core.Path.{_≡_, refl, sym, ap, _∙_}
-use mathlib.Core.List.{List, _++_}
-use Prim.Native.Nat.{ℕ, _+_, _-_, _*_, _≤_, min}
+use mathlib.Core.Path.{_≡_, sym, ap, _∙_}
+use mathlib.Core.List.{_++_}
+use Prim.Native.Nat.{_+_, _-_, _*_, min}
 use native.Mathlib.Omega.{arith}
 use borrow.Author.Needs.{needs}
 use lib.ListN.{length, take, drop}
@@ -9,7 +9,6 @@ use lib.Seq.{length-take-le}
 use Rattle.calls.specs.Pieces.{through, tagFrom}
 use Rattle.calls.specs.Tweak.{blocksOf}
 use Rattle.calls.proofs.ByBlocks.{openingTag-is}
-use Rattle.mode.specs.Text.{Part}
 use Rattle.mode.specs.Under.{enciphers, deciphers}
 use Rattle.mode.proofs.Chunks.{enciphers-blockwise, deciphers-blockwise}
 use Rattle.tae.specs.Passes.{textSum}

@@ -1,12 +1,11 @@
 -- The part is copied, and gone through.
 use mathlib.Core.Path.{_≡_, ap, _∙_}
-use Prim.Native.Nat.{ℕ, _*_}
+use Prim.Native.Nat.{_*_}
 use native.Mathlib.Omega.{arith}
 use borrow.Author.Needs.{needs}
 use lib.ListN.{length, take, drop, length-drop}
 use lib.Seq.{length-take-le}
 use Rattle.calls.specs.Pieces.{through}
-use Rattle.mode.specs.Text.{Part}
 use Rattle.mode.specs.Under.{enciphers, deciphers}
 use Rattle.tae.proofs.Windows.{copied-is}
 use Rattle.tae.proofs.pass.window.Statement.{statement}
