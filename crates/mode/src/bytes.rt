@@ -1,4 +1,4 @@
-// Bytes copied and added.
+// Bytes copied and added. A function with a precondition serves our own crates, which have tested what it asks.
 ghost use mathlib.Core.Path.{_≡_};
 ghost use mathlib.Core.List.{_++_};
 ghost use Prim.Native.Nat.{_/_, _≤_};

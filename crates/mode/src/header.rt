@@ -1,4 +1,4 @@
-// The header's sum.
+// The header's sum. A function with a precondition serves our own crates, which have tested what it asks.
 use cipher::suite::Suite;
 use tweak::HeaderBlock;
 ghost use mathlib.Core.Path.{_≡_};

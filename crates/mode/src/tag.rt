@@ -1,4 +1,4 @@
-// The tag: made, and compared.
+// The tag: made, and compared. A function with a precondition serves our own crates, which have tested what it asks.
 use cipher::suite::Suite;
 ghost use mathlib.Core.Path.{_≡_};
 ghost use Rattle.calls.specs.Pieces.{tagFrom};

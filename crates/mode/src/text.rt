@@ -1,4 +1,4 @@
-// Text blocks.
+// Text blocks. A function with a precondition serves our own crates, which have tested what it asks.
 use cipher::suite::Suite;
 use tweak::TextBlock;
 ghost use mathlib.Core.Bool.{true, cond};
