@@ -1,11 +1,13 @@
 -- Laws of a number's bytes, the highest first, and of strings of bytes one behind the other.
 use mathlib.Core.Path.{_≡_, refl, sym, ap, _∙_}
-use mathlib.Core.List.{_∷_, head-eq-of-cons-eq, tail-eq-of-cons-eq}
-use Prim.Native.Nat.{ℕ, zero, suc, _+_, _*_, _/_, _%_, _^_, _<_}
-use native.Mathlib.Nat.{zero-lt-suc, one-le-pow, pow-succ', mul-assoc, mul-add-div-right, mul-add-mod-self-right, mod-lt, mod-eq-of-lt, div-add-mod', div-lt-iff-lt-mul}
+use mathlib.Core.List.{List, [], _∷_, _++_, head-eq-of-cons-eq, tail-eq-of-cons-eq}
+use Prim.Native.Nat.{ℕ, zero, suc, _+_, _*_, _/_, _%_, _^_, _≤_, _<_}
+use native.Mathlib.Nat.{zero-lt-suc, one-le-pow, pow-succ', mul-assoc, mul-add-div-right, mul-add-mod-self-right, mod-lt, mod-eq-of-lt, div-add-mod', div-lt-iff-lt-mul, div-eq-of-lt, mul-le-mul-right, div-div-eq-div-mul, pow-suc}
 use native.Mathlib.Omega.{arith}
-use lib.ListN.{length, getD}
-use Rattle.bits.specs.Bytes.{Bytes, bigEndian}
+use lib.ListN.{length, getD, set, take, length-append}
+use lib.Seq.{set-at, take-suc, append-snoc, length-take-le}
+use Rattle.bits.specs.Bytes.{Bytes, bigEndian, numberOf}
+use Rattle.bits.proofs.Bytes.{bytes-tail}
 
 pub length-bigEndian : (k v : ℕ) → length (bigEndian k v) ≡ k
 unfolding bigEndian
@@ -53,3 +55,47 @@ bigEndian-inj (suc k) {v} {w} hv hw e =
 
     lower : (x : ℕ) → bigEndian k (x % 256 ^ k) ≡ bigEndian k x
     lower x = sym (bigEndian-above k (x / 256 ^ k) (x % 256 ^ k)) ∙ ap (bigEndian k) (div-add-mod' x (256 ^ k))
+
+pub numberOf-lt : (s : List ℕ) → Bytes s → numberOf s < 256 ^ length s
+unfolding numberOf
+numberOf-lt [] h = omega arith
+numberOf-lt (b ∷ s) h =
+    let low : numberOf s < 256 ^ length s = numberOf-lt s (bytes-tail b s h) in
+    let high : suc b * 256 ^ length s ≤ 256 * 256 ^ length s = mul-le-mul-right (256 ^ length s) (h .fit 0) in
+    omega (arith, pow-succ' 256 (length s))
+
+-- the bytes of that number
+pub bigEndian-numberOf : (s : List ℕ) → Bytes s → bigEndian (length s) (numberOf s) ≡ s
+unfolding bigEndian numberOf
+bigEndian-numberOf [] h = refl
+bigEndian-numberOf (b ∷ s) h =
+    let none : numberOf s / 256 ^ length s ≡ 0 = div-eq-of-lt (numberOf-lt s (bytes-tail b s h)) in
+    let byte : (b + numberOf s / 256 ^ length s) % 256 ≡ b = omega (arith, none, h .fit 0) in
+    bigEndian-marked (length s) b (numberOf s) ∙ (λ i. byte i ∷ bigEndian-numberOf s (bytes-tail b s h) i)
+
+-- and the number of a number's bytes
+pub numberOf-bigEndian : (k v : ℕ) → v < 256 ^ k → numberOf (bigEndian k v) ≡ v
+numberOf-bigEndian k v h =
+    let long : length (bigEndian k v) ≡ k = length-bigEndian k v in
+    bigEndian-inj k (rw long at (numberOf-lt (bigEndian k v) (bytes-bigEndian k v))) h
+    (ap (λ (n : ℕ). bigEndian n (numberOf (bigEndian k v))) (sym long) ∙ bigEndian-numberOf (bigEndian k v) (bytes-bigEndian k v))
+
+-- one byte more
+pub numberOf-snoc : (s : List ℕ) (b : ℕ) → numberOf (s ++ b ∷ []) ≡ numberOf s * 256 + b
+unfolding numberOf
+numberOf-snoc [] b = omega arith
+numberOf-snoc (a ∷ s) b =
+    let long : length (s ++ b ∷ []) ≡ suc (length s) = length-append s (b ∷ []) ∙ omega arith in
+    let e : 256 ^ length (s ++ b ∷ []) ≡ 256 * 256 ^ length s = ap (λ (n : ℕ). 256 ^ n) long ∙ pow-succ' 256 (length s) in
+    ap (λ (x : ℕ). a * x + numberOf (s ++ b ∷ [])) e ∙ ap (λ (x : ℕ). a * (256 * 256 ^ length s) + x) (numberOf-snoc s b) ∙ omega (arith, mul-assoc a 256 (256 ^ length s))
+
+-- written from the back: what is left of a number, and one byte more of it
+pub number-rest : (k v : ℕ) → v / 256 ^ k / 256 ≡ v / 256 ^ suc k
+number-rest k v = div-div-eq-div-mul v (256 ^ k) 256 ∙ ap (λ (p : ℕ). v / p) (sym (pow-suc 256 k))
+
+pub number-more : (b rest : List ℕ) (i k v : ℕ) → i < length b → set (take (suc i) b ++ (bigEndian k v ++ rest)) i (v / 256 ^ k % 256) ≡ take i b ++ (bigEndian (suc k) v ++ rest)
+unfolding bigEndian
+number-more b rest i k v h =
+    ap (λ (r : List ℕ). set (r ++ (bigEndian k v ++ rest)) i (v / 256 ^ k % 256)) (take-suc b i 0 h)
+    ∙ ap (λ (r : List ℕ). set r i (v / 256 ^ k % 256)) (append-snoc (take i b) (getD b i 0) (bigEndian k v ++ rest))
+    ∙ set-at (take i b) (getD b i 0) (bigEndian k v ++ rest) (v / 256 ^ k % 256) i (length-take-le i b (omega arith))

@@ -16,7 +16,7 @@ bytes-cons a x h k = record { fit = at }
     at zero = h
     at (suc i) = k .fit i
 
-bytes-tail : (a : ℕ) (x : List ℕ) → Bytes (a ∷ x) → Bytes x
+pub bytes-tail : (a : ℕ) (x : List ℕ) → Bytes (a ∷ x) → Bytes x
 bytes-tail a x h = record { fit = λ i. h .fit (suc i) }
 
 pub bytes-append : (x y : List ℕ) → Bytes x → Bytes y → Bytes (x ++ y)

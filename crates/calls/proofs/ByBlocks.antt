@@ -10,8 +10,8 @@ use borrow.Author.Tests.{ltb-true, eq-eqb, ne-eqb}
 use Rattle.bits.specs.Bytes.{added}
 use Rattle.bits.specs.Table.{tab}
 use Rattle.bits.proofs.Added.{length-added, added-comm, added-assoc, added-zeros}
-use Rattle.rounds.specs.Blocks.{block}
-use Rattle.rounds.proofs.Each.{Blockwise, block-long}
+use Rattle.blockwise.specs.Blocks.{block}
+use Rattle.blockwise.proofs.Each.{Blockwise, block-long}
 use Rattle.calls.specs.Tweak.{tweak, textTweak, headerTweak, specialTweak, blocksOf, inner, lastTextMark, lastHeaderMark, tagMark}
 use Rattle.calls.specs.Calls.{CipherCall, filled, lengthBlock, sumOf, checksum, headerCall, textCall, tagCall, blockCalls, calls}
 use Rattle.calls.specs.Sealing.{Outcome, run, isText, outcomeAt, placed, tagPart, tagOf, assembled, ahead, sealing, openedTag, back, openOutcomes, opening, openingTag}

@@ -12,8 +12,8 @@ use Rattle.bits.specs.Bytes.{Bytes, added}
 use Rattle.bits.proofs.Added.{length-added, added-twice, bytes-added}
 use Rattle.bits.proofs.Bytes.{bytes-nil, bytes-cons, bytes-append, bytes-take, bytes-zeros}
 use Rattle.state.specs.Block.{Block}
-use Rattle.rounds.specs.Blocks.{block, strung}
-use Rattle.rounds.proofs.Each.{Blockwise, block-long}
+use Rattle.blockwise.specs.Blocks.{block, strung}
+use Rattle.blockwise.proofs.Each.{Blockwise, block-long}
 use Rattle.calls.specs.Tweak.{tweak, textTweak, specialTweak, blocksOf, inner, lastTextMark}
 use Rattle.calls.specs.Calls.{lengthBlock, checksum}
 use Rattle.calls.specs.Sealing.{sealing, opening, openingTag}

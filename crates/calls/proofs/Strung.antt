@@ -9,8 +9,8 @@ use lib.ListN.{length, take, drop, length-append, length-take}
 use lib.Seq.{take-at, drop-at, take-add, take-all}
 use Rattle.bits.specs.Bytes.{Bytes}
 use Rattle.bits.proofs.Bytes.{bytes-nil, bytes-append, bytes-take, bytes-drop}
-use Rattle.rounds.specs.Blocks.{block, strung}
-use Rattle.rounds.proofs.Each.{strung-whole}
+use Rattle.blockwise.specs.Blocks.{block, strung}
+use Rattle.blockwise.proofs.Each.{strung-whole}
 use Rattle.calls.specs.Tweak.{blocksOf}
 
 pub strung-ext : (n : ℕ) (f g : ℕ → List ℕ) → ((i : ℕ) → i < n → f i ≡ g i) → strung n f ≡ strung n g

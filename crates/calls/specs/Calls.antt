@@ -5,7 +5,7 @@ use Prim.Native.Nat.{ℕ, zero, suc, _*_}
 use lib.ListN.{length, take, replicate}
 use Rattle.bits.specs.Bytes.{added}
 use Rattle.bits.specs.Table.{tab}
-use Rattle.rounds.specs.Blocks.{block}
+use Rattle.blockwise.specs.Blocks.{block}
 use Rattle.calls.specs.Tweak.{textTweak, headerTweak, specialTweak, blocksOf, inner, lastTextMark, lastHeaderMark, tagMark}
 
 -- where a cipher call's outcome belongs: to a header block or a text block, "two separate counts from 0", or to the tag

@@ -5,7 +5,7 @@ use mathlib.Core.List.{List}
 use Prim.Native.Nat.{ℕ, _+_}
 use lib.ListN.{length}
 use Rattle.bits.specs.Bytes.{added}
-use Rattle.rounds.specs.Blocks.{block, strung}
+use Rattle.blockwise.specs.Blocks.{block, strung}
 use Rattle.calls.specs.Tweak.{textTweak, headerTweak, specialTweak, blocksOf, inner, lastTextMark, lastHeaderMark, tagMark}
 use Rattle.calls.specs.Calls.{filled, lengthBlock, sumOf}
 

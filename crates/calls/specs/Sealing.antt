@@ -5,7 +5,7 @@ use Prim.Native.Nat.{ℕ}
 use lib.Dec.{eqb}
 use lib.ListN.{length, replicate}
 use Rattle.bits.specs.Bytes.{added}
-use Rattle.rounds.specs.Blocks.{block, strung}
+use Rattle.blockwise.specs.Blocks.{block, strung}
 use Rattle.calls.specs.Tweak.{blocksOf, inner}
 use Rattle.calls.specs.Calls.{Place, header, text, tag, CipherCall, blockCalls, tagCall, calls}
 

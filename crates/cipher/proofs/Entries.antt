@@ -7,12 +7,12 @@ use borrow.Author.Tests.{eqb-true}
 use lib.Dec.{eqb, lit≤}
 use lib.ListN.{length}
 use Rattle.rounds.specs.Cipher.{encipher, decipher}
-use Rattle.rounds.specs.Blocks.{eachBlock}
-use Rattle.rounds.specs.Run.{aheadBlock, backBlock}
+use Rattle.blockwise.specs.Blocks.{eachBlock}
+use Rattle.runs.specs.Run.{aheadBlock, backBlock}
 use Rattle.state.specs.Block.{Block}
-use Rattle.rounds.proofs.Each.{each-one, each-ext}
+use Rattle.blockwise.proofs.Each.{each-one, each-ext}
 use Rattle.rounds.proofs.Inverse.{decipher-encipher, encipher-decipher}
-use Rattle.rounds.proofs.Runs.{encipher-run, decipher-run}
+use Rattle.runs.proofs.Runs.{encipher-run, decipher-run}
 use Rattle.cipher.specs.declared.refusal.Answer.the-variants.{Done, Refused}
 use Rattle.cipher.specs.declared.refusal.Refusal.the-variants.{SuiteNotListed}
 use Rattle.cipher.specs.Suite.{listed, cipherOf, suiteAnswer}

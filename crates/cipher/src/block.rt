@@ -43,7 +43,7 @@ pub fn step(
     ensures { λ r. ⌜ r ≡ stepped cipher done key tweak block ⌝ }
 {
     let mut b = block;
-    rounds::run::run_ahead(cipher, done, 1, false, key, &tweak, &mut b);
+    runs::run_ahead(cipher, done, 1, false, key, &tweak, &mut b);
     b
 }
 
@@ -58,6 +58,6 @@ pub fn step_back(
     ensures { λ r. ⌜ r ≡ unstepped cipher done key tweak block ⌝ }
 {
     let mut b = block;
-    rounds::run::run_back(cipher, done, 1, false, key, &tweak, &mut b);
+    runs::run_back(cipher, done, 1, false, key, &tweak, &mut b);
     b
 }

@@ -15,7 +15,7 @@ pub fn encipher_blocks(suite: Suite, key: [u8; 16], tweaks: &[u8], blocks: &mut 
         return Answer::Refused(Refusal::SuiteNotListed);
     }
     let n = suite.steps as usize;
-    rounds::run::run_ahead(suite.cipher_of(), 0, n, true, key, tweaks, blocks);
+    runs::run_ahead(suite.cipher_of(), 0, n, true, key, tweaks, blocks);
     Answer::Done
 }
 
@@ -28,6 +28,6 @@ pub fn decipher_blocks(suite: Suite, key: [u8; 16], tweaks: &[u8], blocks: &mut 
         return Answer::Refused(Refusal::SuiteNotListed);
     }
     let n = suite.steps as usize;
-    rounds::run::run_back(suite.cipher_of(), 0, n, true, key, tweaks, blocks);
+    runs::run_back(suite.cipher_of(), 0, n, true, key, tweaks, blocks);
     Answer::Done
 }

@@ -16,13 +16,13 @@ use Rattle.calls.proofs.Strung.{block-of-strung}
 use Rattle.calls.proofs.Tweaks.{length-tweak}
 use Rattle.cipher.specs.Entry.{encipheredBlocks}
 use Rattle.cipher.specs.declared.suite.Suite.{Suite}
-use Rattle.rounds.specs.Blocks.{block, strung}
-use Rattle.rounds.proofs.Each.{block-long, strung-whole}
-use Rattle.mode.specs.Sums.{sumFrom}
-use Rattle.mode.specs.Text.{Usable}
-use Rattle.mode.specs.Under.{enciphers}
-use Rattle.mode.proofs.Chunks.{block-append, block-taken, enciphers-blockwise, enciphered-strung}
-use Rattle.mode.proofs.Sums.{part-rest, sum-ext, sum-add, sum-of, filled-whole}
+use Rattle.blockwise.specs.Blocks.{block, strung}
+use Rattle.blockwise.proofs.Each.{block-long, strung-whole}
+use Rattle.sums.specs.Sums.{sumFrom}
+use Rattle.text_blocks.specs.Text.{Usable}
+use Rattle.text_blocks.specs.Under.{enciphers}
+use Rattle.text_blocks.proofs.Chunks.{block-append, block-taken, enciphers-blockwise, enciphered-strung}
+use Rattle.sums.proofs.Sums.{part-rest, sum-ext, sum-add, sum-of, filled-whole}
 
 -- the first k blocks, copied over other bytes
 block-copied : (k : ℕ) (h z : List ℕ) → 16 * k ≤ length h → (i : ℕ) → i < k → block (take (16 * k) h ++ z) i ≡ block h i

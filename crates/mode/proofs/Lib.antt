@@ -1,4 +1,1 @@
-pub mod Chunks
 pub mod Headers
-pub mod Parts
-pub mod Sums

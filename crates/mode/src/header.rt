@@ -7,10 +7,10 @@ ghost use lib.ListN.{length};
 ghost use Rattle.calls.specs.Calls.{sumOf};
 ghost use Rattle.calls.specs.Pieces.{headerSum};
 ghost use Rattle.calls.specs.Tweak.{headerTweak};
-ghost use Rattle.rounds.specs.Blocks.{block};
-ghost use Rattle.mode.specs.Sums.{sumFrom};
-ghost use Rattle.mode.specs.Text.{Usable};
-ghost use Rattle.mode.specs.Under.{enciphers};
+ghost use Rattle.blockwise.specs.Blocks.{block};
+ghost use Rattle.sums.specs.Sums.{sumFrom};
+ghost use Rattle.text_blocks.specs.Text.{Usable};
+ghost use Rattle.text_blocks.specs.Under.{enciphers};
 
 // The first k blocks of the header enciphered, each under the tweak of its number, from `first` on, and added to a sum.
 fn chunk(
@@ -29,9 +29,9 @@ fn chunk(
     let mut blocks = [0u8; 1024];
     let end = 16 * k;
     tweak::header_tweaks(nonce, first, k, &mut tweaks);
-    crate::bytes::copy(&header[..end], &mut blocks);
+    sums::copy(&header[..end], &mut blocks);
     cipher::blocks::encipher_blocks(suite, key, &tweaks[..end], &mut blocks);
-    crate::bytes::add_blocks(sum, &blocks[..end])
+    sums::add_blocks(sum, &blocks[..end])
 }
 
 // The first n blocks of the header, none of them last, enciphered and added up.
@@ -42,7 +42,7 @@ fn inner(suite: Suite, key: [u8; 16], nonce: &[u8], header: &[u8], n: usize) -> 
     let mut sum = [0u8; 16];
     let mut done: usize = 0;
     while done < n {
-        let k = crate::text::few(n - done);
+        let k = text_blocks::few(n - done);
         let at = 16 * done;
         let next = chunk(
             suite,
@@ -71,7 +71,7 @@ pub fn sum(suite: Suite, key: [u8; 16], nonce: &[u8], header: &[u8]) -> [u8; 16]
     let n = (a - 1) / 16;
     let whole = inner(suite, key, nonce, header, n);
     let at = 16 * n;
-    let last = crate::bytes::fill(&header[at..], 0x80);
-    let t = tweak::special_tweak(nonce, crate::text::mark(a, 0xD0, 0xD8));
-    crate::bytes::add(whole, crate::text::encipher_one(suite, key, t, last))
+    let last = sums::fill(&header[at..], 0x80);
+    let t = tweak::special_tweak(nonce, text_blocks::mark(a, 0xD0, 0xD8));
+    sums::add(whole, text_blocks::encipher_one(suite, key, t, last))
 }

@@ -1,5 +1,3 @@
-// The parts of the sealing mode, block by block. They serve the crates above, which have tested suite, nonce and limits.
-pub mod bytes;
+// The header's sum and the tag. They serve the crates above, which have tested suite, nonce and limits.
 pub mod header;
 pub mod tag;
-pub mod text;

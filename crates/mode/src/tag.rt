@@ -3,8 +3,8 @@ use cipher::suite::Suite;
 ghost use mathlib.Core.Path.{_≡_};
 ghost use Rattle.calls.specs.Pieces.{tagFrom};
 ghost use Rattle.bits.specs.Bytes.{sameBytes};
-ghost use Rattle.mode.specs.Text.{Usable};
-ghost use Rattle.mode.specs.Under.{enciphers};
+ghost use Rattle.text_blocks.specs.Text.{Usable};
+ghost use Rattle.text_blocks.specs.Under.{enciphers};
 
 // The tag of a text of m bytes, by its checksum and the header's sum.
 pub fn make(
@@ -18,8 +18,8 @@ pub fn make(
     requires { ⌜ Usable suite (now nonce) ⌝ }
     ensures { λ r. ⌜ r ≡ tagFrom (enciphers suite key) (now (nonce .entry)) m checksum sum ⌝ }
 {
-    let t = tweak::special_tweak(nonce, crate::text::mark(m, 0xE0, 0xE8));
-    crate::bytes::add(crate::text::encipher_one(suite, key, t, checksum), sum)
+    let t = tweak::special_tweak(nonce, text_blocks::mark(m, 0xE0, 0xE8));
+    sums::add(text_blocks::encipher_one(suite, key, t, checksum), sum)
 }
 
 // Whether two tags are the same; every byte is compared.

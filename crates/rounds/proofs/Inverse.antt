@@ -10,9 +10,11 @@ use lib.ListN.{length, getD}
 use lib.Pow.{pow-pos}
 use Rattle.bits.proofs.Lists.{tab-getD}
 use Rattle.state.specs.Rows.{Rows, addRows}
-use Rattle.boxes.specs.Lbox
-use Rattle.boxes.specs.Sbox
-use Rattle.boxes.proofs.Inverses as boxes
+use Rattle.lbox.specs.Lbox
+use Rattle.sbox.specs.Sbox
+use Rattle.state.proofs.Rows.{tab-rows}
+use Rattle.sbox.proofs.Inverses as sboxes
+use Rattle.lbox.proofs.Inverses as lboxes
 use Rattle.rounds.specs.declared.Cipher.{Cipher}
 use Rattle.rounds.specs.declared.Cipher.the-variants.{Scream, IScream}
 use Rattle.state.specs.Block.{Block, rows, bytes}
@@ -25,13 +27,13 @@ pub sound : (c : Cipher) → Sound (parts c)
 unfolding Lbox.scream Lbox.screamInverse Lbox.iscream
 sound Scream =
     record {
-      sboxes = sbox-undo Sbox.scream Sbox.screamInverse boxes.scream-sbox-back boxes.scream-sbox-forth;
-      lboxes = lbox-undo Lbox.scream Lbox.screamInverse refl refl boxes.scream-lbox-back boxes.scream-lbox-forth;
+      sboxes = sbox-undo Sbox.scream Sbox.screamInverse sboxes.scream-sbox-back sboxes.scream-sbox-forth;
+      lboxes = lbox-undo Lbox.scream Lbox.screamInverse refl refl lboxes.scream-lbox-back lboxes.scream-lbox-forth;
     }
 sound IScream =
     record {
-      sboxes = sbox-undo Sbox.iscream Sbox.iscream boxes.iscream-sbox-back boxes.iscream-sbox-back;
-      lboxes = lbox-undo Lbox.iscream Lbox.iscream refl refl boxes.iscream-lbox-back boxes.iscream-lbox-back;
+      sboxes = sbox-undo Sbox.iscream Sbox.iscream sboxes.iscream-sbox-back sboxes.iscream-sbox-back;
+      lboxes = lbox-undo Lbox.iscream Lbox.iscream refl refl lboxes.iscream-lbox-back lboxes.iscream-lbox-back;
     }
 
 -- the tweakeys are states
@@ -64,7 +66,7 @@ unfolding φ
 
 rotated-rows : (t : List ℕ) → Rows t → Rows (rotated t)
 unfolding rotated
-rotated-rows t r = boxes.tab-rows (λ i. rotatedRow (getD t i 0)) (λ i. fits (getD t i 0) (r .words i))
+rotated-rows t r = tab-rows (λ i. rotatedRow (getD t i 0)) (λ i. fits (getD t i 0) (r .words i))
   where
     fits : (x : ℕ) → x < 2 ^ 16 → rotatedRow x < 2 ^ 16
     fits x h = omega arith

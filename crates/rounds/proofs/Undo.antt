@@ -11,9 +11,11 @@ use Rattle.bits.specs.Table.{tab}
 use Rattle.bits.proofs.Bits.{xor-twice}
 use Rattle.bits.proofs.Lists.{getD-tab, tab-ext, tab-getD}
 use Rattle.state.specs.Rows.{Rows, addRows}
-use Rattle.boxes.specs.Sbox
-use Rattle.boxes.specs.Lbox
-use Rattle.boxes.proofs.Inverses as boxes
+use Rattle.sbox.specs.Sbox
+use Rattle.lbox.specs.Lbox
+use Rattle.state.proofs.Rows.{tab-rows}
+use Rattle.sbox.proofs.Inverses as sboxes
+use Rattle.lbox.proofs.Inverses as lboxes
 use Rattle.rounds.specs.Cipher.{Parts, constant, addConstant, round, unround, step, unstep, steps, unsteps}
 
 pub record Undo (f g : List ℕ → List ℕ) : Type 0 where
@@ -37,7 +39,7 @@ id-undo = record { keeps = λ x r. r; kept = λ y r. r; undone = λ x r. refl; r
 
 pub add-rows : (x k : List ℕ) → Rows x → Rows k → Rows (addRows x k)
 unfolding addRows
-add-rows x k r s = boxes.tab-rows (λ i. bitXor (getD x i 0) (getD k i 0)) (λ i. xor-lt 16 (getD x i 0) (getD k i 0) (r .words i) (s .words i))
+add-rows x k r s = tab-rows (λ i. bitXor (getD x i 0) (getD k i 0)) (λ i. xor-lt 16 (getD x i 0) (getD k i 0) (r .words i) (s .words i))
 
 add-twice : (x k : List ℕ) → Rows x → addRows (addRows x k) k ≡ x
 unfolding addRows
@@ -88,13 +90,13 @@ pub constant-lt : (r : ℕ) → constant r < 2 ^ 16
 unfolding constant
 constant-lt r = omega arith
 
-pub sbox-undo : (t u : List ℕ) → T (boxes.back t u) → T (boxes.back u t) → Undo (Sbox.layer t) (Sbox.layer u)
+pub sbox-undo : (t u : List ℕ) → T (sboxes.back t u) → T (sboxes.back u t) → Undo (Sbox.layer t) (Sbox.layer u)
 sbox-undo t u e f =
     record {
-      keeps = λ x r. boxes.sbox-rows t x;
-      kept = λ y r. boxes.sbox-rows u y;
-      undone = boxes.sbox-undone t u e;
-      redone = boxes.sbox-undone u t f;
+      keeps = λ x r. sboxes.sbox-rows t x;
+      kept = λ y r. sboxes.sbox-rows u y;
+      undone = sboxes.sbox-undone t u e;
+      redone = sboxes.sbox-undone u t f;
     }
 
 pub lbox-undo : (m n : List (List ℕ)) → length m ≡ 16 → length n ≡ 16
@@ -103,10 +105,10 @@ pub lbox-undo : (m n : List (List ℕ)) → length m ≡ 16 → length n ≡ 16
     → Undo (Lbox.layer m) (Lbox.layer n)
 lbox-undo m n hm hn e f =
     record {
-      keeps = λ x r. boxes.lbox-rows m hm x;
-      kept = λ y r. boxes.lbox-rows n hn y;
-      undone = boxes.lbox-undone m n e;
-      redone = boxes.lbox-undone n m f;
+      keeps = λ x r. lboxes.lbox-rows m hm x;
+      kept = λ y r. lboxes.lbox-rows n hn y;
+      undone = lboxes.lbox-undone m n e;
+      redone = lboxes.lbox-undone n m f;
     }
 
 -- parts whose boxes undo each other

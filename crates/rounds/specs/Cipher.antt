@@ -6,8 +6,8 @@ use Prim.Native.Nat.{ℕ, zero, suc, _+_, _*_, _%_}
 use lib.Bits.{bitXor}
 use lib.Dec.{ltb}
 use lib.ListN.{getD, set}
-use Rattle.boxes.specs.Sbox
-use Rattle.boxes.specs.Lbox
+use Rattle.sbox.specs.Sbox
+use Rattle.lbox.specs.Lbox
 use Rattle.rounds.specs.declared.Cipher.{Cipher}
 use Rattle.rounds.specs.declared.Cipher.the-variants.{Scream, IScream}
 use Rattle.state.specs.Block.{rows, bytes}

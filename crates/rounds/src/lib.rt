@@ -1,8 +1,4 @@
-// Rounds, steps and tweakeys of both ciphers, and runs of steps over blocks. The entry points are those of the crate cipher.
-pub mod run;
-mod steps;
-mod tweakey;
-
+// Both ciphers by definition: tweakeys, rounds and steps. The code of these stands in the crates tweakey, steps and runs.
 pub enum Cipher {
     Scream,
     IScream,

@@ -18,12 +18,12 @@ use Rattle.cipher.specs.declared.suite.Suite.{Suite}
 use Rattle.limits.specs.Limits.{headerLimit, textLimit}
 use Rattle.limits.specs.Tests.{openTests, verifyTests}
 use Rattle.limits.proofs.Passed.{open-passed, verify-passed, header-limit-most, text-limit-most}
-use Rattle.mode.specs.Text.{Usable}
-use Rattle.mode.specs.Under.{enciphers, deciphers}
+use Rattle.text_blocks.specs.Text.{Usable}
+use Rattle.text_blocks.specs.Under.{enciphers, deciphers}
 use Rattle.tae.specs.Open.{ciphertext, opened, agrees, thenTag, openOutcome, openReport, openAnswer, openBuffer}
 use Rattle.tae.specs.Verify.{verifyOutcome, verifyReport, verifyAnswer}
-use Rattle.tae.specs.Passes.{Passable}
-use Rattle.tae.specs.Seal.{written}
+use Rattle.sealing.specs.Passes.{Passable}
+use Rattle.sealing.specs.Seal.{written}
 use Rattle.tae.specs.declared.open.OpenAnswer.the-variants.{Refused as OpenRefused}
 use Rattle.tae.specs.declared.verify.VerifyAnswer.the-variants.{Refused as VerifyRefused}
 use Rattle.tae.proofs.Opened.{through-split, window-long}

@@ -23,16 +23,16 @@ use Rattle.cipher.specs.declared.suite.Suite.{Suite}
 use Rattle.cipher.specs.Suite.{cipherOf}
 use Rattle.limits.proofs.Passed.{Openable as Passing, seal-passed, open-passed, open-passes}
 use Rattle.bits.specs.Bytes.{sameBytes}
-use Rattle.mode.specs.Under.{enciphers, deciphers}
-use Rattle.mode.proofs.Chunks.{enciphers-blockwise, deciphers-blockwise}
+use Rattle.text_blocks.specs.Under.{enciphers, deciphers}
+use Rattle.text_blocks.proofs.Chunks.{enciphers-blockwise, deciphers-blockwise}
 use Rattle.rounds.proofs.Inverse.{encipher-block, decipher-block, decipher-encipher, encipher-decipher}
 use Rattle.state.specs.Block.{Block}
 use Rattle.tae.specs.Demand2.{Context, image, Sealable, Openable, Accepts, Differs, Demand2}
 use Rattle.tae.specs.Open.{ciphertext, opened, agrees, thenTag, openReport, openAnswer, openBuffer}
-use Rattle.tae.specs.Seal.{sealed, sealOutcome, sealReport, sealAnswer, sealBuffer, written}
+use Rattle.sealing.specs.Seal.{sealed, sealOutcome, sealReport, sealAnswer, sealBuffer, written}
 use Rattle.tae.specs.declared.open.OpenAnswer.{OpenAnswer}
 use Rattle.tae.specs.declared.open.OpenAnswer.the-variants.{Opened, Refused as OpenRefused}
-use Rattle.tae.specs.declared.seal.SealAnswer.the-variants.{Sealed}
+use Rattle.sealing.specs.declared.seal.SealAnswer.the-variants.{Sealed}
 use Rattle.tae.proofs.Answers.{open-done}
 use Rattle.tae.proofs.Opened.{opened-long}
 

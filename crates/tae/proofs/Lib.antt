@@ -1,5 +1,3 @@
 pub mod Answers
 pub mod Demand2
 pub mod Opened
-pub mod Sealed
-pub mod Windows

@@ -12,17 +12,17 @@ use Rattle.calls.specs.Sealing.{openingTag}
 use Rattle.calls.specs.Tweak.{blocksOf}
 use Rattle.calls.proofs.ByBlocks.{opening-is, length-through}
 use Rattle.calls.proofs.Strung.{strung-ext, strung-add}
-use Rattle.rounds.specs.Blocks.{block, strung}
+use Rattle.blockwise.specs.Blocks.{block, strung}
 use Rattle.cipher.specs.declared.refusal.Answer.the-variants.{Done, Refused}
 use Rattle.cipher.specs.declared.refusal.Refusal.the-variants.{TagDiffers}
 use Rattle.cipher.specs.declared.suite.Suite.{Suite}
 use Rattle.bits.specs.Bytes.{sameBytes}
-use Rattle.mode.specs.Text.{Part}
-use Rattle.mode.specs.Under.{enciphers, deciphers}
-use Rattle.mode.proofs.Chunks.{block-taken, enciphers-blockwise, deciphers-blockwise}
+use Rattle.text_blocks.specs.Text.{Part}
+use Rattle.text_blocks.specs.Under.{enciphers, deciphers}
+use Rattle.text_blocks.proofs.Chunks.{block-taken, enciphers-blockwise, deciphers-blockwise}
 use Rattle.tae.specs.Open.{ciphertext, opened, agrees, thenTag}
-use Rattle.tae.specs.Seal.{written}
-use Rattle.tae.proofs.Windows.{later, text, text-long, part-of-rest}
+use Rattle.sealing.specs.Seal.{written}
+use Rattle.passes.proofs.Windows.{later, text, text-long, part-of-rest}
 
 module _ (f e : List ℕ → List ℕ → List ℕ) (nonce : List ℕ) (m : ℕ) (c : List ℕ) (k : ℕ) (room : 16 * k ≤ length c) where
   pub through-split : through f e nonce m 0 c ≡ through f e nonce m 0 (take (16 * k) c) ++ through f e nonce m k (drop (16 * k) c)

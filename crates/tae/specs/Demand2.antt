@@ -13,9 +13,9 @@ use Rattle.cipher.specs.declared.refusal.Answer.the-variants.{Done}
 use Rattle.cipher.specs.declared.refusal.Refusal.the-variants.{TagDiffers}
 use Rattle.limits.specs.Tests.{openTests}
 use Rattle.tae.specs.Open.{openAnswer, openBuffer}
-use Rattle.tae.specs.Seal.{sealed, sealOutcome, sealAnswer, sealBuffer}
+use Rattle.sealing.specs.Seal.{sealed, sealOutcome, sealAnswer, sealBuffer}
 use Rattle.tae.specs.declared.open.OpenAnswer.the-variants.{Opened, Refused as OpenRefused}
-use Rattle.tae.specs.declared.seal.SealAnswer.the-variants.{Sealed}
+use Rattle.sealing.specs.declared.seal.SealAnswer.the-variants.{Sealed}
 
 -- a suite, a key, a nonce and a header
 pub record Context : Type 0 where

@@ -13,7 +13,7 @@ use Rattle.bits.specs.Bytes.{sameBytes}
 use Rattle.rounds.specs.Cipher.{encipher, decipher}
 use Rattle.tae.specs.declared.open.OpenAnswer.{OpenAnswer}
 use Rattle.tae.specs.declared.open.OpenAnswer.the-variants.{Opened, Refused as OpenRefused}
-use Rattle.tae.specs.Seal.{written}
+use Rattle.sealing.specs.Seal.{written}
 
 -- "Sealed bytes are ciphertext, then tag."
 abbrev pub ciphertext : List ℕ → List ℕ

@@ -1,6 +1,3 @@
-// Sealing and opening: SCREAM and iSCREAM, the tweakable authenticated encryption of the CAESAR submission, version 1.
-mod counts;
+// Opening what was sealed, and demand 2.
 pub mod open;
-mod pass;
-pub mod seal;
 pub mod verify;

@@ -8,10 +8,10 @@ ghost use Prim.Native.Nat.{_-_, _%_, _≤_, min};
 ghost use lib.ListN.{length, take, drop};
 ghost use Rattle.calls.specs.Pieces.{through};
 ghost use Rattle.cipher.specs.declared.refusal.Answer.the-variants.{Done};
-ghost use Rattle.mode.specs.Under.{enciphers, deciphers};
+ghost use Rattle.text_blocks.specs.Under.{enciphers, deciphers};
 ghost use Rattle.tae.specs.Open.{ciphertext, opened, agrees, thenTag, openReport, openAnswer, openBuffer};
-ghost use Rattle.tae.specs.Passes.{Passable};
-ghost use Rattle.tae.specs.Seal.{written};
+ghost use Rattle.sealing.specs.Passes.{Passable};
+ghost use Rattle.sealing.specs.Seal.{written};
 
 // The length of the text, or the refusal.
 pub enum OpenAnswer {
@@ -25,10 +25,10 @@ fn hand_out(suite: Suite, key: [u8; 16], nonce: &[u8], c: &[u8], work: &[u8], ou
     ensures { λ r. ⌜ now (out .exit) ≡ through (deciphers suite key) (enciphers suite key) (now (nonce .entry)) (length (now (c .entry))) 0 (now (c .entry)) ++ drop (length (now (c .entry))) (now (out .entry)) ⌝ }
 {
     let m = c.len();
-    let n = crate::counts::lesser(m, work.len());
-    mode::bytes::copy(&work[..n], out);
+    let n = sealing::counts::lesser(m, work.len());
+    sums::copy(&work[..n], out);
     if n < m {
-        crate::pass::window(suite, key, nonce, c, n / 16, &mut out[n..m]);
+        passes::window(suite, key, nonce, c, n / 16, &mut out[n..m]);
     }
 }
 
@@ -46,8 +46,8 @@ fn open_with(
     ensures { λ r. ⌜ (r ≡ thenTag Done (agrees (suite .cipher) (suite .steps) key (now (nonce .entry)) (now (header .entry)) (now (sealed .entry)))) × (now (out .exit) ≡ written (thenTag Done (agrees (suite .cipher) (suite .steps) key (now (nonce .entry)) (now (header .entry)) (now (sealed .entry)))) (opened (suite .cipher) (suite .steps) key (now (nonce .entry)) (now (header .entry)) (now (sealed .entry))) (now (out .entry))) ⌝ }
 {
     let m = sealed.len() - 16;
-    let tag = crate::pass::tag_of(suite, key, nonce, header, &sealed[..m], work);
-    if mode::tag::same(tag, rounds::run::block_at(sealed, m)) {
+    let tag = passes::tag_of(suite, key, nonce, header, &sealed[..m], work);
+    if mode::tag::same(tag, blockwise::block_at(sealed, m)) {
         hand_out(suite, key, nonce, &sealed[..m], work, out);
         return Answer::Done;
     }
@@ -96,7 +96,7 @@ pub fn open(
     match tested {
         Answer::Refused(why) => OpenAnswer::Refused(why),
         Answer::Done => {
-            let k = rounds::run::block_at(key, 0);
+            let k = blockwise::block_at(key, 0);
             let answer = open_tested(suite, k, nonce, header, sealed, out);
             report(answer, s - 16)
         }

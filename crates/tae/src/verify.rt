@@ -7,7 +7,7 @@ ghost use Prim.Native.Nat.{_≤_};
 ghost use lib.ListN.{length};
 ghost use Rattle.cipher.specs.declared.refusal.Answer.the-variants.{Done};
 ghost use Rattle.tae.specs.Open.{ciphertext, opened, agrees, thenTag};
-ghost use Rattle.tae.specs.Passes.{Passable};
+ghost use Rattle.sealing.specs.Passes.{Passable};
 ghost use Rattle.tae.specs.Verify.{verifyAnswer, verifyReport};
 
 // The first two bytes of the text, 0 for one that is not there; or the refusal.
@@ -29,8 +29,8 @@ fn verify_tested(
 {
     let mut work = [0u8; 1024];
     let m = sealed.len() - 16;
-    let tag = crate::pass::tag_of(suite, key, nonce, header, &sealed[..m], &mut work);
-    if mode::tag::same(tag, rounds::run::block_at(sealed, m)) {
+    let tag = passes::tag_of(suite, key, nonce, header, &sealed[..m], &mut work);
+    if mode::tag::same(tag, blockwise::block_at(sealed, m)) {
         return VerifyAnswer::Agrees(work[0], work[1]);
     }
     VerifyAnswer::Refused(Refusal::TagDiffers)
@@ -44,7 +44,7 @@ pub fn verify(suite: Suite, key: &[u8], nonce: &[u8], header: &[u8], sealed: &[u
     match tested {
         Answer::Refused(why) => VerifyAnswer::Refused(why),
         Answer::Done => {
-            let k = rounds::run::block_at(key, 0);
+            let k = blockwise::block_at(key, 0);
             verify_tested(suite, k, nonce, header, sealed)
         }
     }

@@ -1,62 +1,88 @@
 -- Strings that a loop fills from the back, and block by block.
 use mathlib.Core.Path.{_≡_, sym, ap, _∙_}
-use mathlib.Core.List.{List, _∷_, _++_}
+use mathlib.Core.List.{List, [], _∷_, _++_, append-assoc, append-nil}
 use Prim.Native.Nat.{ℕ, suc, _+_, _-_, _*_, _/_, _%_, _^_, _≤_, _<_}
-use native.Mathlib.Nat.{le-of-eq, div-div-eq-div-mul, pow-suc}
+use native.Mathlib.Nat.{le-of-eq}
 use native.Mathlib.Numerals.{add-one}
 use native.Mathlib.Omega.{arith}
-use lib.ListN.{length, getD, set, take, drop}
-use lib.Seq.{paste, getD-at, set-at, take-at, drop-at, take-suc, take-all, drop-drop, append-snoc, take-append-seam, length-take-le}
+use lib.ListN.{length, getD, set, take, drop, replicate}
+use lib.Seq.{paste, getD-at, set-at, take-at, drop-at, take-suc, take-all, drop-drop, drop-paste, append-snoc, take-append-seam, take-append-le, take-append-add, length-take-le, length-paste-head}
 use Rattle.bits.specs.Bytes.{bigEndian}
 use Rattle.calls.specs.Tweak.{tweak}
 use Rattle.bits.proofs.BigEndian.{bigEndian-marked}
-use Rattle.rounds.specs.Blocks.{strung}
-use Rattle.rounds.proofs.Each.{strung-whole}
+use Rattle.blockwise.specs.Blocks.{strung}
+use Rattle.blockwise.proofs.Each.{strung-whole}
 
--- from the back: what is left of a number, and one byte more of it
-pub number-rest : (k v : ℕ) → v / 256 ^ k / 256 ≡ v / 256 ^ suc k
-number-rest k v = div-div-eq-div-mul v (256 ^ k) 256 ∙ ap (λ (p : ℕ). v / p) (sym (pow-suc 256 k))
-
-pub number-more : (b : List ℕ) (i k v : ℕ) → i < length b → set (take (suc i) b ++ bigEndian k v) i (v / 256 ^ k % 256) ≡ take i b ++ bigEndian (suc k) v
+-- a mark added in the first byte of a number that stands behind p
+mark-more : (p rest : List ℕ) (n k m v : ℕ) → length p ≡ n
+    → set (p ++ (bigEndian (suc k) v ++ rest)) n ((m + getD (p ++ (bigEndian (suc k) v ++ rest)) n 0) % 256) ≡ p ++ (bigEndian (suc k) (m * 256 ^ k + v) ++ rest)
 unfolding bigEndian
-number-more b i k v h =
-    ap (λ (r : List ℕ). set (r ++ bigEndian k v) i (v / 256 ^ k % 256)) (take-suc b i 0 h)
-    ∙ ap (λ (r : List ℕ). set r i (v / 256 ^ k % 256)) (append-snoc (take i b) (getD b i 0) (bigEndian k v))
-    ∙ set-at (take i b) (getD b i 0) (bigEndian k v) (v / 256 ^ k % 256) i (length-take-le i b (omega arith))
-
--- a mark added in the number's first byte
-pub mark-more : (b : List ℕ) (n k m v : ℕ) → n ≤ length b
-    → set (take n b ++ bigEndian (suc k) v) n ((m + getD (take n b ++ bigEndian (suc k) v) n 0) % 256) ≡ take n b ++ bigEndian (suc k) (m * 256 ^ k + v)
-unfolding bigEndian
-mark-more b n k m v h =
-    let long : length (take n b) ≡ n = length-take-le n b h in
+mark-more p rest n k m v long =
     let sum : (m + v / 256 ^ k % 256) % 256 ≡ (m + v / 256 ^ k) % 256 = both m (v / 256 ^ k) in
-    ap (λ (x : ℕ). set (take n b ++ bigEndian (suc k) v) n ((m + x) % 256)) (getD-at (take n b) (v / 256 ^ k % 256) (bigEndian k v) 0 n long)
-    ∙ set-at (take n b) (v / 256 ^ k % 256) (bigEndian k v) ((m + v / 256 ^ k % 256) % 256) n long
-    ∙ ap (λ (x : ℕ). take n b ++ x ∷ bigEndian k v) sum
-    ∙ ap (λ (r : List ℕ). take n b ++ r) (sym (bigEndian-marked k m v))
+    ap (λ (x : ℕ). set (p ++ (bigEndian (suc k) v ++ rest)) n ((m + x) % 256)) (getD-at p (v / 256 ^ k % 256) (bigEndian k v ++ rest) 0 n long)
+    ∙ set-at p (v / 256 ^ k % 256) (bigEndian k v ++ rest) ((m + v / 256 ^ k % 256) % 256) n long
+    ∙ ap (λ (x : ℕ). p ++ x ∷ (bigEndian k v ++ rest)) sum
+    ∙ ap (λ (r : List ℕ). p ++ (r ++ rest)) (sym (bigEndian-marked k m v))
   where
     both : (x y : ℕ) → (x + y % 256) % 256 ≡ (x + y) % 256
     both x y = omega arith
 
--- over a nonce and whatever follows it, that is the tweak
-pub tweak-made : (nonce rest : List ℕ) (mark v : ℕ) → take (length nonce) (nonce ++ rest) ++ bigEndian (16 - length nonce) (mark * 256 ^ (15 - length nonce) + v) ≡ tweak nonce mark v
+-- a block put at a place, up to its byte n
+put-front : (d b : List ℕ) (at n : ℕ) → n ≤ length b → at ≤ length d → length b ≡ 16 → take (at + n) (paste d at b 16) ≡ take at d ++ take n b
+put-front d b at n hn hd hb =
+    let rest = drop (at + 16) d in
+    (λ i. take (at + n) (take at d ++ take-all 16 b (le-of-eq hb) i ++ rest))
+    ∙ ap (take (at + n)) (append-assoc (take at d) b rest)
+    ∙ ap (λ (k : ℕ). take (k + n) (take at d ++ (b ++ rest))) (sym (length-take-le at d hd))
+    ∙ take-append-add (take at d) (b ++ rest) n
+    ∙ ap (λ (r : List ℕ). take at d ++ r) (take-append-le n b rest hn)
+
+-- a block put at a place, then a number over its bytes from n on, then a mark added in the first of these
+module _ (d b : List ℕ) (at n m v : ℕ) (hn : n ≤ 15) (hd : at + 16 ≤ length d) (hb : length b ≡ 16) where
+  pub marked-put : {t u : List ℕ} {x : ℕ} → t ≡ paste d at b 16 → u ≡ take (at + n) t ++ (bigEndian (16 - n) v ++ drop (at + 16) t) → x ≡ (m + getD u (at + n) 0) % 256
+      → set u (at + n) x ≡ take at d ++ (take n b ++ bigEndian (16 - n) (m * 256 ^ (15 - n) + v)) ++ drop (at + 16) d
+  marked-put {t} {u} put number sum =
+      let front : List ℕ = take at d ++ take n b in
+      let rest : List ℕ = drop (at + 16) d in
+      let k : 16 - n ≡ suc (15 - n) = omega arith in
+      let long : length front ≡ at + n = length-paste-head d at b n (omega arith) (omega arith) in
+      let start : take (at + n) t ≡ front = ap (take (at + n)) put ∙ put-front d b at n (omega arith) (omega arith) hb in
+      let end : drop (at + 16) t ≡ rest = ap (drop (at + 16)) put ∙ drop-paste d at b 16 (omega arith) (le-of-eq (sym hb)) in
+      let made : u ≡ front ++ (bigEndian (suc (15 - n)) v ++ rest) = number ∙ (λ i. start i ++ (bigEndian (k i) v ++ end i)) in
+      ap (set u (at + n)) sum
+      ∙ ap (λ (r : List ℕ). set r (at + n) ((m + getD r (at + n) 0) % 256)) made
+      ∙ mark-more front rest (at + n) (15 - n) m v long
+      ∙ ap (λ (j : ℕ). front ++ (bigEndian j (m * 256 ^ (15 - n) + v) ++ rest)) (sym k)
+      ∙ sym (append-assoc front (bigEndian (16 - n) (m * 256 ^ (15 - n) + v)) rest)
+      ∙ ap (λ (r : List ℕ). r ++ rest) (append-assoc (take at d) (take n b) (bigEndian (16 - n) (m * 256 ^ (15 - n) + v)))
+
+-- over a nonce and zeros, that block is the tweak
+pub tweak-made : (nonce : List ℕ) {base : List ℕ} (mark v : ℕ) → base ≡ nonce ++ replicate (16 - length nonce) 0
+    → take (length nonce) base ++ bigEndian (16 - length nonce) (mark * 256 ^ (15 - length nonce) + v) ≡ tweak nonce mark v
 unfolding tweak
-tweak-made nonce rest mark v =
-    ap (λ (r : List ℕ). r ++ bigEndian (16 - length nonce) (mark * 256 ^ (15 - length nonce) + v)) (take-append-seam nonce rest)
+tweak-made nonce mark v e =
+    ap (λ (b : List ℕ). take (length nonce) b ++ bigEndian (16 - length nonce) (mark * 256 ^ (15 - length nonce) + v)) e
+    ∙ ap (λ (r : List ℕ). r ++ bigEndian (16 - length nonce) (mark * 256 ^ (15 - length nonce) + v)) (take-append-seam nonce (replicate (16 - length nonce) 0))
+
+-- with nothing around it
+pub tweak-alone : (nonce : List ℕ) {base t : List ℕ} (mark v : ℕ) → base ≡ nonce ++ replicate (16 - length nonce) 0
+    → t ≡ take (length nonce) base ++ bigEndian (16 - length nonce) (mark * 256 ^ (15 - length nonce) + v) ++ [] → t ≡ tweak nonce mark v
+tweak-alone nonce mark v e put =
+    put ∙ ap (λ (r : List ℕ). r ++ []) (tweak-made nonce mark v e) ∙ append-nil (tweak nonce mark v)
 
 -- block by block
 module _ (g : ℕ → List ℕ) (long : (i : ℕ) → length (g i) ≡ 16) where
-  pub strung-more : (d : List ℕ) (n : ℕ)
-      → paste (strung n g ++ drop (16 * n) d) (16 * n) (g n) 16 ≡ strung (n + 1) g ++ drop (16 * (n + 1)) d
+  pub strung-more : (d : List ℕ) (n : ℕ) {t u b : List ℕ} → t ≡ strung n g ++ drop (16 * n) d → b ≡ g n → u ≡ take (16 * n) t ++ b ++ drop (16 * n + 16) t
+      → u ≡ strung (n + 1) g ++ drop (16 * (n + 1)) d
   unfolding strung
-  strung-more d n =
-      let front : take (16 * n) (strung n g ++ drop (16 * n) d) ≡ strung n g = take-at (strung n g) (drop (16 * n) d) (16 * n) (strung-whole n g (λ i l. long i)) in
-      let whole : take 16 (g n) ≡ g n = take-all 16 (g n) (le-of-eq (long n)) in
+  strung-more d n {t} so-far block put =
+      let whole : length (strung n g) ≡ 16 * n = strung-whole n g (λ i l. long i) in
+      let front : take (16 * n) t ≡ strung n g = ap (take (16 * n)) so-far ∙ take-at (strung n g) (drop (16 * n) d) (16 * n) whole in
       let sixteens : 16 * n + 16 ≡ 16 * suc n = omega arith in
-      let end : drop (16 * n + 16) (strung n g ++ drop (16 * n) d) ≡ drop (16 * suc n) d =
-      sym (drop-drop 16 (16 * n) (strung n g ++ drop (16 * n) d))
-      ∙ ap (drop 16) (drop-at (strung n g) (drop (16 * n) d) (16 * n) (strung-whole n g (λ i l. long i)))
+      let end : drop (16 * n + 16) t ≡ drop (16 * suc n) d =
+      sym (drop-drop 16 (16 * n) t)
+      ∙ ap (λ (l : List ℕ). drop 16 (drop (16 * n) l)) so-far
+      ∙ ap (drop 16) (drop-at (strung n g) (drop (16 * n) d) (16 * n) whole)
       ∙ drop-drop 16 (16 * n) d
       ∙ ap (λ (m : ℕ). drop m d) sixteens in
-      (λ i. front i ++ whole i ++ end i) ∙ sym (ap (λ (m : ℕ). strung m g ++ drop (16 * m) d) (add-one n))
+      put ∙ (λ i. front i ++ block i ++ end i) ∙ sym (ap (λ (m : ℕ). strung m g ++ drop (16 * m) d) (add-one n))

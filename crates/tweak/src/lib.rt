@@ -5,7 +5,7 @@ ghost use mathlib.Core.List.{_++_};
 ghost use Prim.Native.Nat.{_+_, _-_, _*_, _%_, _^_, _<_, _≤_};
 ghost use lib.ListN.{length, take, drop, replicate};
 ghost use Rattle.bits.specs.Bytes.{bigEndian};
-ghost use Rattle.rounds.specs.Blocks.{strung};
+ghost use Rattle.blockwise.specs.Blocks.{strung};
 ghost use Rattle.calls.specs.Tweak.{tweak, textTweak, headerTweak, specialTweak};
 
 // The number of a text block, from 0.
@@ -29,20 +29,18 @@ fn based(nonce: &[u8]) -> [u8; 16]
     t
 }
 
-// A number in all bytes from n on.
-fn numbered(base: [u8; 16], n: usize, number: u64) -> [u8; 16]
-    requires { ⌜ n ≤ 15 ⌝ }
-    ensures { λ r. ⌜ r ≡ take n base ++ bigEndian (16 - n) number ⌝ }
+// A number in all bytes from n on of the block at a place.
+fn put_number(d: &mut [u8], at: usize, n: usize, number: u64)
+    requires { ⌜ (n ≤ 15) × (at + 16 ≤ length (now d)) ⌝ }
+    ensures { λ r. ⌜ now (d .exit) ≡ take (at + n) (now (d .entry)) ++ (bigEndian (16 - n) number ++ drop (at + 16) (now (d .entry))) ⌝ }
 {
-    let mut t = base;
     let mut x = number;
     let mut i: usize = 16;
     while n < i {
         i -= 1;
-        t[i] = (x % 256) as u8;
+        d[at + i] = (x % 256) as u8;
         x = x / 256;
     }
-    t
 }
 
 fn sum(a: u8, b: u8) -> u8
@@ -51,15 +49,16 @@ fn sum(a: u8, b: u8) -> u8
     (((a as u16) + (b as u16)) % 256) as u8
 }
 
-// A number in all bytes from n on, and a mark added in the first of these.
-fn marked(base: [u8; 16], n: usize, mark: u8, number: u64) -> [u8; 16]
-    requires { ⌜ n ≤ 15 ⌝ }
-    ensures { λ r. ⌜ r ≡ take n base ++ bigEndian (16 - n) (mark * 256 ^ (15 - n) + number) ⌝ }
+// A block put at a place: the base, a number in all bytes from n on, and a mark added in the first of these. It is made in place: a
+// processor waits where a block is made byte by byte and then read whole.
+fn put_marked(d: &mut [u8], at: usize, base: [u8; 16], n: usize, mark: u8, number: u64)
+    requires { ⌜ (n ≤ 15) × (at + 16 ≤ length (now d)) ⌝ }
+    ensures { λ r. ⌜ now (d .exit) ≡ take at (now (d .entry)) ++ (take n base ++ bigEndian (16 - n) (mark * 256 ^ (15 - n) + number)) ++ drop (at + 16) (now (d .entry)) ⌝ }
 {
-    let mut t = numbered(base, n, number);
-    let first = sum(mark, t[n]);
-    t[n] = first;
-    t
+    blockwise::put_at(d, at, base);
+    put_number(d, at, n, number);
+    let first = sum(mark, d[at + n]);
+    d[at + n] = first;
 }
 
 // The tweaks of k numbers from `first` on, one behind the other.
@@ -71,7 +70,7 @@ fn fill(nonce: &[u8], mark: u8, first: u64, k: usize, tweaks: &mut [u8])
     let n = nonce.len();
     let mut i: usize = 0;
     while i < k {
-        rounds::run::put_at(tweaks, 16 * i, marked(base, n, mark, first + (i as u64)));
+        put_marked(tweaks, 16 * i, base, n, mark, first + (i as u64));
         i += 1;
     }
 }
@@ -99,5 +98,7 @@ pub fn special_tweak(nonce: &[u8], byte: u8) -> [u8; 16]
     requires { ⌜ length (now nonce) ≤ 15 ⌝ }
     ensures { λ r. ⌜ r ≡ specialTweak (now (nonce .entry)) byte ⌝ }
 {
-    marked(based(nonce), nonce.len(), byte, 0)
+    let mut t = [0u8; 16];
+    put_marked(&mut t, 0, based(nonce), nonce.len(), byte, 0);
+    t
 }

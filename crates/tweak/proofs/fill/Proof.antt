@@ -1,14 +1,12 @@
 -- The loop has made the first i tweaks.
 use mathlib.Core.Path.{_≡_, refl, ap, _∙_}
 use mathlib.Core.List.{List, _++_}
-use Prim.Native.Nat.{ℕ, _+_, _-_, _*_, _^_, _≤_}
+use Prim.Native.Nat.{ℕ, _+_, _-_, _*_, _≤_}
 use native.Mathlib.Omega.{arith}
 use borrow.Author.Needs.{needs}
-use lib.ListN.{length, take, drop, replicate, length-append, length-drop}
-use lib.Seq.{paste}
-use Rattle.bits.specs.Bytes.{bigEndian}
-use Rattle.rounds.specs.Blocks.{strung}
-use Rattle.rounds.proofs.Each.{strung-whole}
+use lib.ListN.{length, drop, length-append, length-drop}
+use Rattle.blockwise.specs.Blocks.{strung}
+use Rattle.blockwise.proofs.Each.{strung-whole}
 use Rattle.calls.specs.Tweak.{tweak}
 use Rattle.calls.proofs.Tweaks.{length-tweak}
 use Rattle.tweak.proofs.Fills.{strung-more, tweak-made}
@@ -36,17 +34,13 @@ module _ (c : tie.At-loop Inv-loop μ-loop) where
 
 loop-again : tie.Need-loop-again Inv-loop μ-loop
 loop-again c =
-    let h = c .before .before .before .before .before .before in
+    let h = c .before .before .before .before .before in
     let a = h .before .before .before .before .args in
     let g : ℕ → List ℕ = λ j. tweak (a .nonce .now) (a .mark) (a .first + j) in
-    let made : c .before .before .before .marked .result ≡ g (h .loop .i) =
-    c .before .before .before .marked .ensures
-    ∙ ap (λ b. take (length (a .nonce .now)) b ++ bigEndian (16 - length (a .nonce .now)) (a .mark * 256 ^ (15 - length (a .nonce .now)) + (a .first + h .loop .i))) (h .before .based .ensures)
-    ∙ tweak-made (a .nonce .now) (replicate (16 - length (a .nonce .now)) 0) (a .mark) (a .first + h .loop .i) in (
+    let made = tweak-made (a .nonce .now) (a .mark) (a .first + h .loop .i) (h .before .based .ensures) in (
       omega arith,
-      c .before .before .put-at .ensures
-          ∙ (λ i. paste (h .loop .inv .1 i) (16 * h .loop .i) (made i) 16)
-          ∙ strung-more g (λ j. length-tweak (a .nonce .now) (a .mark) (a .first + j) (omega arith)) (a .tweaks .now) (h .loop .i),
+      strung-more g (λ j. length-tweak (a .nonce .now) (a .mark) (a .first + j) (omega arith)) (a .tweaks .now) (h .loop .i)
+          (h .loop .inv .1) made (c .before .before .put-marked .ensures),
     )
 
 same-length : tie.Need-same-length Inv-loop μ-loop
@@ -69,8 +63,7 @@ fill-spec =
     loop-holds
     (λ c. omega arith)
     (λ c. omega arith)
-    (λ c κs. search needs)
-    (λ c κs. omega (arith, kept (c .before .before .before)))
+    (λ c κs. (omega arith, omega (arith, kept (c .before .before))))
     (λ c. omega arith)
     (λ c. omega arith)
     loop-again

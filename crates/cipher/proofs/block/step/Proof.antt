@@ -2,7 +2,7 @@
 use mathlib.Core.Path.{_∙_}
 use native.Mathlib.Omega.{arith}
 use borrow.Author.Needs.{needs}
-use Rattle.rounds.proofs.Runs.{stepped-run}
+use Rattle.runs.proofs.Runs.{stepped-run}
 use Rattle.cipher.proofs.block.step.Statement.{statement}
 use Rattle.cipher.proofs.block.step.Tie as tie
 

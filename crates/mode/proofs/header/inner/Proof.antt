@@ -6,10 +6,10 @@ use borrow.Author.Needs.{needs}
 use lib.ListN.{length-drop}
 use Rattle.calls.specs.Calls.{sumOf}
 use Rattle.calls.specs.Tweak.{headerTweak}
-use Rattle.rounds.specs.Blocks.{block}
-use Rattle.mode.specs.Under.{enciphers}
+use Rattle.blockwise.specs.Blocks.{block}
+use Rattle.text_blocks.specs.Under.{enciphers}
 use Rattle.mode.proofs.Headers.{sum-chunk}
-use Rattle.mode.proofs.Sums.{part-rest}
+use Rattle.sums.proofs.Sums.{part-rest}
 use Rattle.mode.proofs.header.inner.Statement.{statement}
 use Rattle.mode.proofs.header.inner.Tie as tie
 

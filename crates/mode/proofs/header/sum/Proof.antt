@@ -7,9 +7,9 @@ use lib.ListN.{length}
 use Rattle.bits.specs.Bytes.{added}
 use Rattle.calls.specs.Calls.{filled}
 use Rattle.calls.specs.Tweak.{specialTweak}
-use Rattle.mode.specs.Under.{enciphers}
+use Rattle.text_blocks.specs.Under.{enciphers}
 use Rattle.mode.proofs.Headers.{header-none, header-all}
-use Rattle.mode.proofs.Sums.{part-rest}
+use Rattle.sums.proofs.Sums.{part-rest}
 use Rattle.mode.proofs.header.sum.Statement.{statement}
 use Rattle.mode.proofs.header.sum.Tie as tie
 

@@ -4,7 +4,7 @@ use borrow.Author.Needs.{needs}
 use Rattle.bits.specs.Bytes.{added}
 use Rattle.calls.specs.Pieces.{tagFrom}
 use Rattle.calls.specs.Tweak.{specialTweak}
-use Rattle.mode.specs.Under.{enciphers}
+use Rattle.text_blocks.specs.Under.{enciphers}
 use Rattle.mode.proofs.tag.make.Statement.{statement}
 use Rattle.mode.proofs.tag.make.Tie as tie
 

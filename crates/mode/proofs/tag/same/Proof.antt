@@ -8,7 +8,7 @@ use borrow.Author.Needs.{needs}
 use lib.Dec.{eqb}
 use lib.ListN.{getD}
 use Rattle.bits.specs.Bytes.{sameBytes}
-use Rattle.mode.proofs.Sums.{differs-more}
+use Rattle.sums.proofs.Sums.{differs-more}
 use Rattle.mode.proofs.tag.same.Statement.{statement}
 use Rattle.mode.proofs.tag.same.Tie as tie
 

@@ -8,8 +8,8 @@ use borrow.Author.Needs.{needs}
 use lib.ListN.{length, take, drop, length-append, length-drop}
 use lib.Seq.{length-take-le, take-length, take-at, drop-at, drop-drop}
 use Rattle.calls.specs.Pieces.{through}
-use Rattle.mode.specs.Under.{enciphers, deciphers}
-use Rattle.mode.proofs.Sums.{part-rest}
+use Rattle.text_blocks.specs.Under.{enciphers, deciphers}
+use Rattle.sums.proofs.Sums.{part-rest}
 use Rattle.tae.proofs.Opened.{through-split}
 use Rattle.tae.proofs.open.hand_out.Statement.{statement}
 use Rattle.tae.proofs.open.hand_out.Tie as tie

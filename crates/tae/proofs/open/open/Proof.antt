@@ -8,7 +8,7 @@ use lib.Seq.{take-all}
 use Rattle.cipher.specs.declared.refusal.Answer.the-variants.{Done}
 use Rattle.limits.specs.Tests.{openTests}
 use Rattle.tae.specs.Open.{opened, agrees, thenTag, openReport}
-use Rattle.tae.specs.Seal.{written}
+use Rattle.sealing.specs.Seal.{written}
 use Rattle.tae.proofs.Answers.{Ready, open-refused, open-ready, open-room, open-done}
 use Rattle.tae.proofs.open.open.Statement.{statement}
 use Rattle.tae.proofs.open.open.Tie as tie

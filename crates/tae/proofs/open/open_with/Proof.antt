@@ -7,7 +7,7 @@ use lib.ListN.{length, take}
 use lib.Seq.{length-take-le}
 use Rattle.calls.specs.Pieces.{through}
 use Rattle.bits.specs.Bytes.{sameBytes}
-use Rattle.mode.specs.Under.{enciphers, deciphers}
+use Rattle.text_blocks.specs.Under.{enciphers, deciphers}
 use Rattle.tae.specs.Open.{ciphertext, agrees}
 use Rattle.tae.proofs.Opened.{work-kept, work-front, window-long, with-tag, without-tag, agrees-is}
 use Rattle.tae.proofs.open.open_with.Statement.{statement}

@@ -1,4 +1,0 @@
-pub mod Circuit
-pub mod Listings
-pub mod Matrix
-pub mod Inverses

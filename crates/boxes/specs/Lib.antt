@@ -1,3 +1,0 @@
-pub mod Sbox
-pub mod Lbox
-pub mod Tables

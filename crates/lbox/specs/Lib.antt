@@ -1,0 +1,2 @@
+pub mod Lbox
+pub mod Tables

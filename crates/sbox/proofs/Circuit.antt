@@ -1,0 +1,171 @@
+-- Circuits of bitwise operations, run at any width: at 16 bits they are the code on rows, at 1 bit the same circuit on one column.
+use mathlib.Core.Path.{_≡_, refl, sym, ap, _∙_}
+use mathlib.Core.Bool.{Bool, true, false}
+use mathlib.Core.List.{List, [], _∷_, map}
+use Prim.Native.Nat.{ℕ, zero, suc, _+_, _-_, _*_, _^_, _≤_, _<_}
+use native.Mathlib.Omega.{arith}
+use lib.Bits.{bitAnd, bitOr, bitXor, and-lt, or-lt, xor-lt}
+use lib.Dec.{T, eqb, eqb→eq, lit<}
+use lib.ListN.{length, getD, set, take, List·getD-map}
+use lib.Pow.{pow-pos, ones-sub-lt}
+use Rattle.bits.specs.Bit.{bit, gather}
+use Rattle.bits.specs.Table.{tab}
+use Rattle.bits.proofs.Bits.{bit-lt, bit-ext, bit-and, bit-or, bit-xor, bit-not, bit-of-zero, bit-gather, gather-lt}
+use Rattle.bits.proofs.Lists.{getD-tab, tab-ext}
+use Rattle.bits.proofs.Tests.{all, all-at}
+use Rattle.sbox.specs.Sbox.{column, layer}
+
+pub data Expr : Type 0 where
+  reg : ℕ → Expr
+  xor : Expr → Expr → Expr
+  and : Expr → Expr → Expr
+  or : Expr → Expr → Expr
+  not : Expr → Expr
+
+-- put the value of an expression into a register
+pub data Instruction : Type 0 where
+  put : ℕ → Expr → Instruction
+
+-- an expression's value, at a width of k bits
+abbrev pub eval : ℕ → Expr → List ℕ → ℕ
+eval k (reg i) w = getD w i 0
+eval k (xor a b) w = bitXor (eval k a w) (eval k b w)
+eval k (and a b) w = bitAnd (eval k a w) (eval k b w)
+eval k (or a b) w = bitOr (eval k a w) (eval k b w)
+eval k (not a) w = 2 ^ k - 1 - eval k a w
+
+abbrev pub run : ℕ → List Instruction → List ℕ → List ℕ
+run k [] w = w
+run k (put d e ∷ p) w = run k p (set w d (eval k e w))
+
+-- eight rows, then four temporaries
+abbrev pub start : (ℕ → ℕ) → List ℕ
+start f = f 0 ∷ f 1 ∷ f 2 ∷ f 3 ∷ f 4 ∷ f 5 ∷ f 6 ∷ f 7 ∷ 0 ∷ 0 ∷ 0 ∷ 0 ∷ []
+
+-- each register fits k bits
+pub record Fit (k : ℕ) (w : List ℕ) : Type 0 where
+  pub at : (i : ℕ) → getD w i 0 < 2 ^ k
+
+eval-fit : {k : ℕ} {w : List ℕ} (e : Expr) → Fit k w → eval k e w < 2 ^ k
+eval-fit (reg i) f = f .at i
+eval-fit {k} {w} (xor a b) f = xor-lt k (eval k a w) (eval k b w) (eval-fit a f) (eval-fit b f)
+eval-fit {k} {w} (and a b) f = and-lt k (eval k a w) (eval k b w) (eval-fit a f) (eval-fit b f)
+eval-fit {k} {w} (or a b) f = or-lt k (eval k a w) (eval k b w) (eval-fit a f) (eval-fit b f)
+eval-fit {k} {w} (not a) f = ones-sub-lt k (eval k a w)
+
+set-at : (k : ℕ) (w : List ℕ) (d v : ℕ) → v < 2 ^ k → ((i : ℕ) → getD w i 0 < 2 ^ k) → (i : ℕ) → getD (set w d v) i 0 < 2 ^ k
+set-at k [] d v hv h i = h i
+set-at k (x ∷ w) zero v hv h zero = hv
+set-at k (x ∷ w) zero v hv h (suc i) = h (suc i)
+set-at k (x ∷ w) (suc d) v hv h zero = h zero
+set-at k (x ∷ w) (suc d) v hv h (suc i) = set-at k w d v hv (λ i. h (suc i)) i
+
+run-fit : {k : ℕ} {w : List ℕ} (p : List Instruction) → Fit k w → Fit k (run k p w)
+run-fit [] f = f
+run-fit {k} {w} (put d e ∷ p) f =
+    run-fit {k = k} {w = set w d (eval k e w)} p (record { at = set-at k w d (eval k e w) (eval-fit e f) (f .at) })
+
+map-set : (f : ℕ → ℕ) (w : List ℕ) (d v : ℕ) → map f (set w d v) ≡ set (map f w) d (f v)
+map-set f [] d v = refl
+map-set f (x ∷ w) zero v = refl
+map-set f (x ∷ w) (suc d) v = ap (λ (l : List ℕ). f x ∷ l) (map-set f w d v)
+
+-- bit j of what a circuit gives is what the circuit gives of the bits j
+module _ (j : ℕ) (hj : j < 16) where
+  bits-eval : {w : List ℕ} (e : Expr) → Fit 16 w → bit (eval 16 e w) j ≡ eval 1 e (map (λ x. bit x j) w)
+  bits-eval {w} (reg i) f =
+      sym (List·getD-map (λ x. bit x j) w i 0) ∙ ap (getD (map (λ x. bit x j) w) i) (bit-of-zero j)
+  bits-eval {w} (xor a b) f = bit-xor (eval 16 a w) (eval 16 b w) j ∙ cc (bits-eval a f, bits-eval b f)
+  bits-eval {w} (and a b) f = bit-and (eval 16 a w) (eval 16 b w) j ∙ cc (bits-eval a f, bits-eval b f)
+  bits-eval {w} (or a b) f = bit-or (eval 16 a w) (eval 16 b w) j ∙ cc (bits-eval a f, bits-eval b f)
+  bits-eval {w} (not a) f = bit-not 16 (eval 16 a w) j (eval-fit a f) hj ∙ ap (λ (n : ℕ). 1 - n) (bits-eval a f)
+
+  bits-run : {w : List ℕ} (p : List Instruction) → Fit 16 w → map (λ x. bit x j) (run 16 p w) ≡ run 1 p (map (λ x. bit x j) w)
+  bits-run [] f = refl
+  bits-run {w} (put d e ∷ p) f =
+      bits-run {w = set w d (eval 16 e w)} p (record { at = set-at 16 w d (eval 16 e w) (eval-fit e f) (f .at) })
+      ∙ ap (run 1 p) (map-set (λ x. bit x j) w d (eval 16 e w) ∙ ap (set (map (λ x. bit x j) w) d) (bits-eval e f))
+
+-- the column that the circuit makes of the column c
+abbrev outcome : List Instruction → ℕ → ℕ
+outcome p c =
+    let r : List ℕ = run 1 p (start (bit c)) in
+    gather 8 (λ i. getD r i 0)
+
+-- the circuit gives the table's entry at each of the 256 columns
+abbrev pub right : List Instruction → List ℕ → Bool
+right p t = all 256 (λ c. eqb (outcome p c) (getD t c 0))
+
+zeros : (k i : ℕ) → getD (0 ∷ 0 ∷ 0 ∷ 0 ∷ []) i 0 < 2 ^ k
+zeros k zero = pow-pos k
+zeros k (suc zero) = pow-pos k
+zeros k (suc (suc zero)) = pow-pos k
+zeros k (suc (suc (suc zero))) = pow-pos k
+zeros k (suc (suc (suc (suc i)))) = pow-pos k
+
+start-fit : (f : ℕ → ℕ) (k : ℕ) → ((i : ℕ) → f i < 2 ^ k) → Fit k (start f)
+start-fit f k h = record { at = at }
+  where
+    at : (i : ℕ) → getD (start f) i 0 < 2 ^ k
+    at zero = h 0
+    at (suc zero) = h 1
+    at (suc (suc zero)) = h 2
+    at (suc (suc (suc zero))) = h 3
+    at (suc (suc (suc (suc zero)))) = h 4
+    at (suc (suc (suc (suc (suc zero))))) = h 5
+    at (suc (suc (suc (suc (suc (suc zero)))))) = h 6
+    at (suc (suc (suc (suc (suc (suc (suc zero))))))) = h 7
+    at (suc (suc (suc (suc (suc (suc (suc (suc i)))))))) = zeros k i
+
+pub column-bit : (w : List ℕ) (j i : ℕ) → i < 8 → bit (getD w i 0) j ≡ bit (column w j) i
+unfolding column
+column-bit w j i h = sym (bit-gather 8 (λ i. bit (getD w i 0) j) (λ i. bit-lt (getD w i 0) j) i h)
+
+pub column-lt : (w : List ℕ) (j : ℕ) → column w j < 256
+unfolding column
+column-lt w j = gather-lt 8 (λ i. bit (getD w i 0) j) (λ i. bit-lt (getD w i 0) j)
+
+-- the bits j of the rows are the bits of column j
+column-bits : (w : List ℕ) (j : ℕ) → map (λ x. bit x j) (start (λ i. getD w i 0)) ≡ start (bit (column w j))
+column-bits w j = λ k.
+    column-bit w j 0 (lit< tt) k
+    ∷ column-bit w j 1 (lit< tt) k
+    ∷ column-bit w j 2 (lit< tt) k
+    ∷ column-bit w j 3 (lit< tt) k
+    ∷ column-bit w j 4 (lit< tt) k
+    ∷ column-bit w j 5 (lit< tt) k
+    ∷ column-bit w j 6 (lit< tt) k
+    ∷ column-bit w j 7 (lit< tt) k
+    ∷ bit-of-zero j k
+    ∷ bit-of-zero j k
+    ∷ bit-of-zero j k
+    ∷ bit-of-zero j k
+    ∷ []
+
+module _ (t : List ℕ) (p : List Instruction) (test : T (right p t)) (w : List ℕ) (words : (i : ℕ) → getD w i 0 < 2 ^ 16) where
+  fit : Fit 16 (start (λ i. getD w i 0))
+  fit = start-fit (λ i. getD w i 0) 16 words
+
+  bit-is : (i : ℕ) → i < 8 → (j : ℕ) → j < 16 → bit (getD t (column w j) 0) i ≡ bit (getD (run 16 p (start (λ i. getD w i 0))) i 0) j
+  bit-is i hi j hj =
+      let c : ℕ = column w j in
+      let from : List ℕ = start (λ i. getD w i 0) in
+      ap (λ (x : ℕ). bit x i) (sym (eqb→eq (outcome p c) (getD t c 0) (all-at 256 (λ c. eqb (outcome p c) (getD t c 0)) test c (column-lt w j))))
+      ∙ bit-gather 8 (λ i. getD (run 1 p (start (bit c))) i 0) (run-fit {k = 1} {w = start (bit c)} p (start-fit (bit c) 1 (bit-lt c)) .at) i hi
+      ∙ ap (λ (l : List ℕ). getD (run 1 p l) i 0) (sym (column-bits w j))
+      ∙ ap (λ (l : List ℕ). getD l i 0) (sym (bits-run j hj p fit))
+      ∙ ap (getD (map (λ x. bit x j) (run 16 p from)) i) (sym (bit-of-zero j))
+      ∙ List·getD-map (λ x. bit x j) (run 16 p from) i 0
+
+  row-is : (i : ℕ) → i < 8 → gather 16 (λ j. bit (getD t (column w j) 0) i) ≡ getD (run 16 p (start (λ i. getD w i 0))) i 0
+  row-is i hi =
+      bit-ext 16
+      (gather-lt 16 (λ j. bit (getD t (column w j) 0) i) (λ j. bit-lt (getD t (column w j) 0) i))
+      (run-fit {k = 16} {w = start (λ i. getD w i 0)} p fit .at i)
+      (λ j hj. bit-gather 16 (λ j. bit (getD t (column w j) 0) i) (λ j. bit-lt (getD t (column w j) 0) i) j hj ∙ bit-is i hi j hj)
+
+-- A circuit that passes the test is the S-box layer, whatever the rows.
+pub circuit-is : (t : List ℕ) (p : List Instruction) → T (right p t) → (w : List ℕ) → ((i : ℕ) → getD w i 0 < 2 ^ 16)
+    → tab 8 (λ i. getD (run 16 p (start (λ i. getD w i 0))) i 0) ≡ layer t w
+unfolding layer
+circuit-is t p test w words = sym (tab-ext 8 (λ i. gather 16 (λ j. bit (getD t (column w j) 0) i)) (λ i. getD (run 16 p (start (λ i. getD w i 0))) i 0) (row-is t p test w words))

@@ -1,0 +1,3 @@
+pub mod Circuit
+pub mod Listings
+pub mod Inverses

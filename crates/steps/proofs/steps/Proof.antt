@@ -1,0 +1,73 @@
+-- The loop has done i of the n steps.
+use mathlib.Core.Path.{_≡_, refl, _∙_}
+use Prim.Native.Nat.{_+_, _-_, _≤_}
+use native.Mathlib.Omega.{arith}
+use borrow.Author.Needs.{needs}
+use Rattle.rounds.specs.Cipher.{parts, steps}
+use Rattle.tweakey.specs.Schedule.{tweakeysIn}
+use Rattle.state.specs.State.{rowsOf}
+use Rattle.steps.proofs.Turns.{steps-next}
+use Rattle.tweakey.proofs.Tweakeys.{tweakeys-in}
+use Rattle.steps.proofs.steps.Statement.{statement}
+use Rattle.steps.proofs.steps.Tie as tie
+
+abbrev Inv-loop : tie.InvT-loop
+Inv-loop k s n h low high c y₀ i₀ y i = (i ≤ n) × (rowsOf y ≡ steps (parts k) (tweakeysIn k h) s i (rowsOf y₀))
+
+abbrev μ-loop : tie.MeasureT-loop
+μ-loop k s n h low high c y₀ i₀ y i = n - i
+
+loop-holds : tie.Need-loop-holds Inv-loop μ-loop
+unfolding steps
+loop-holds c = (search needs, refl)
+
+add-two-rounds : tie.Need-add-two-rounds Inv-loop μ-loop
+add-two-rounds c = omega arith
+
+two-rounds-requires : tie.Need-two-rounds-requires Inv-loop μ-loop
+two-rounds-requires c κs = (omega arith, c .before .before .before .pre .1)
+
+add-tweakey : tie.Need-add-tweakey Inv-loop μ-loop
+add-tweakey c = omega arith
+
+add-tweakey-2 : tie.Need-add-tweakey-2 Inv-loop μ-loop
+add-tweakey-2 c = omega arith
+
+add-i : tie.Need-add-i Inv-loop μ-loop
+add-i c = omega arith
+
+loop-less : tie.Need-loop-less Inv-loop μ-loop
+loop-less c = omega arith
+
+loop-again : tie.Need-loop-again Inv-loop μ-loop
+loop-again c =
+    let h = c .before .before .before .before .before .before in
+    let a = h .before .args in (
+      omega arith,
+      cc (steps-next (parts (a .k)) (tweakeysIn (a .k) (a .h)) (a .s) (h .loop .i) (rowsOf (a .x)), tweakeys-in (a .k) (a .h) (a .s + h .loop .i + 1)),
+    )
+
+returns : tie.Need-returns Inv-loop μ-loop
+returns c =
+    let e : c .before .loop .i ≡ c .before .before .args .n = omega arith in
+    rw e at (c .before .loop .inv .1)
+
+pub steps-spec : {M : Type 1} → statement M
+steps-spec =
+    tie.close
+    (tie.spec
+    Inv-loop
+    μ-loop
+    loop-holds
+    (λ c κs. search needs)
+    add-two-rounds
+    two-rounds-requires
+    (λ c κs. search needs)
+    add-tweakey
+    add-tweakey-2
+    (λ c κs. search needs)
+    (λ c κs. search needs)
+    add-i
+    loop-less
+    loop-again
+    returns)

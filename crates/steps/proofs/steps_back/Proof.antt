@@ -1,0 +1,70 @@
+-- The loop has i of the n steps yet to undo.
+use mathlib.Core.Path.{_≡_, refl, _∙_}
+use Prim.Native.Nat.{_+_, _-_, _≤_}
+use native.Mathlib.Omega.{arith}
+use borrow.Author.Needs.{needs}
+use Rattle.rounds.specs.Cipher.{parts, unsteps}
+use Rattle.tweakey.specs.Schedule.{tweakeysIn}
+use Rattle.state.specs.State.{rowsOf}
+use Rattle.steps.proofs.Turns.{unsteps-next}
+use Rattle.tweakey.proofs.Tweakeys.{tweakeys-in}
+use Rattle.steps.proofs.steps_back.Statement.{statement}
+use Rattle.steps.proofs.steps_back.Tie as tie
+
+abbrev Inv-loop : tie.InvT-loop
+Inv-loop k s n h low high c y₀ i₀ y i =
+    (i ≤ n) × (unsteps (parts k) (tweakeysIn k h) s i (rowsOf y) ≡ unsteps (parts k) (tweakeysIn k h) s n (rowsOf y₀))
+
+abbrev μ-loop : tie.MeasureT-loop
+μ-loop k s n h low high c y₀ i₀ y i = i
+
+loop-holds : tie.Need-loop-holds Inv-loop μ-loop
+loop-holds c = (search needs, refl)
+
+add-tweakey : tie.Need-add-tweakey Inv-loop μ-loop
+add-tweakey c = omega arith
+
+sub-i : tie.Need-sub-i Inv-loop μ-loop
+sub-i c = omega arith
+
+add-two-rounds-back : tie.Need-add-two-rounds-back Inv-loop μ-loop
+add-two-rounds-back c = omega arith
+
+two-rounds-back-requires : tie.Need-two-rounds-back-requires Inv-loop μ-loop
+two-rounds-back-requires c κs = (omega arith, c .before .before .before .before .before .pre .1)
+
+loop-less : tie.Need-loop-less Inv-loop μ-loop
+loop-less c = omega arith
+
+loop-again : tie.Need-loop-again Inv-loop μ-loop
+loop-again c =
+    let h = c .before .before .before .before .before .before in
+    let a = h .before .args in (
+      omega arith,
+      cc (unsteps-next (parts (a .k)) (tweakeysIn (a .k) (a .h)) (a .s) (h .loop .i) (rowsOf (h .loop .y)) (omega arith), tweakeys-in (a .k) (a .h) (a .s + h .loop .i)),
+    )
+
+returns : tie.Need-returns Inv-loop μ-loop
+unfolding unsteps
+returns c =
+    let e : c .before .loop .i ≡ 0 = omega arith in
+    rw e at (c .before .loop .inv .1)
+
+pub steps-back-spec : {M : Type 1} → statement M
+steps-back-spec =
+    tie.close
+    (tie.spec
+    Inv-loop
+    μ-loop
+    loop-holds
+    add-tweakey
+    (λ c κs. search needs)
+    (λ c κs. search needs)
+    sub-i
+    (λ c κs. search needs)
+    add-two-rounds-back
+    two-rounds-back-requires
+    (λ c κs. search needs)
+    loop-less
+    loop-again
+    returns)

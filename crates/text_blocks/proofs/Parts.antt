@@ -1,0 +1,75 @@
+-- A part of a text, as the code goes through it: whole blocks before the last, and the last.
+use mathlib.Core.Path.{_≡_, sym, ap, _∙_}
+use mathlib.Core.Bool.{Bool, false, cond}
+use mathlib.Core.Logic.{_⊎_, inl, inr}
+use mathlib.Core.List.{List, _++_, append-nil}
+use Prim.Native.Nat.{ℕ, suc, _+_, _-_, _*_, _/_, _%_, _≤_, _<_}
+use native.Mathlib.Nat.{le-of-eq}
+use native.Mathlib.Omega.{arith}
+use borrow.Author.Tests.{lt-ltb, le-ltb}
+use lib.ListN.{length, take, drop, length-drop, drop-of-length-le}
+use lib.Seq.{take-all, length-take-le}
+use Rattle.bits.specs.Bytes.{added}
+use Rattle.calls.specs.Calls.{lengthBlock}
+use Rattle.calls.specs.Pieces.{piece, through}
+use Rattle.calls.specs.Tweak.{textTweak, specialTweak, blocksOf, inner, lastTextMark}
+use Rattle.blockwise.specs.Blocks.{block, strung}
+use Rattle.calls.proofs.Strung.{strung-ext}
+use Rattle.text_blocks.proofs.Chunks.{block-taken}
+
+-- what does not reach the text's end is whole blocks
+pub before-whole : (m end n : ℕ) → (end ≡ m) ⊎ (n % 16 ≡ 0) → end < m → n % 16 ≡ 0
+before-whole m end n (inl e) h = absurd (omega arith)
+before-whole m end n (inr w) h = w
+
+-- the blocks of a front of k whole blocks
+pub front-blocks : (g : ℕ → List ℕ → List ℕ) (s : List ℕ) (k : ℕ) → 16 * k ≤ length s
+    → strung (length (take (16 * k) s) / 16) (λ i. g i (block (take (16 * k) s) i)) ++ drop (16 * (length (take (16 * k) s) / 16)) (take (16 * k) s)
+    ≡ strung k (λ i. g i (block s i))
+front-blocks g s k h =
+    let t = take (16 * k) s in
+    let l : length t ≡ 16 * k = length-take-le (16 * k) s h in
+    let n : length t / 16 ≡ k = omega arith in
+    ap (λ (j : ℕ). strung j (λ i. g i (block t i)) ++ drop (16 * j) t) n
+    ∙ (λ j. strung-ext k (λ i. g i (block t i)) (λ i. g i (block s i)) (λ i b. ap (g i) (block-taken k s h i b)) j ++ drop-of-length-le t {i = 16 * k} (le-of-eq l) j)
+    ∙ append-nil (strung k (λ i. g i (block s i)))
+
+module _ (f e : List ℕ → List ℕ → List ℕ) (nonce : List ℕ) (m first : ℕ) (s : List ℕ) where
+  under : ℕ → List ℕ
+  under i = f (textTweak nonce (first + i)) (block s i)
+
+  piece-inner : (i : ℕ) → 16 * (first + i) + 16 < m → under i ≡ piece f e nonce m (first + i) (block s i)
+  unfolding under piece
+  piece-inner i h =
+      ap (λ (t : Bool). cond t (f (textTweak nonce (first + i)) (block s i)) (added (block s i) (e (specialTweak nonce (lastTextMark m)) (lengthBlock (length (block s i))))))
+      (sym (lt-ltb (suc (first + i)) (blocksOf m) (omega arith)))
+
+  pub through-before : 16 * first + length s < m → length s % 16 ≡ 0
+      → strung (length s / 16) (λ i. f (textTweak nonce (first + i)) (block s i)) ++ drop (16 * (length s / 16)) s ≡ through f e nonce m first s
+  unfolding through under
+  through-before h w =
+      let n : length s / 16 ≡ blocksOf (length s) = omega arith in
+      (λ j. strung-ext (length s / 16) under (λ i. piece f e nonce m (first + i) (block s i)) (λ i b. piece-inner i (omega arith)) j ++ drop-of-length-le s {i = 16 * (length s / 16)} (omega arith) j)
+      ∙ append-nil (strung (length s / 16) (λ i. piece f e nonce m (first + i) (block s i)))
+      ∙ ap (λ (k : ℕ). strung k (λ i. piece f e nonce m (first + i) (block s i))) n
+
+  pub through-none : length s ≡ 0 → s ≡ through f e nonce m first s
+  unfolding through strung
+  through-none l =
+      sym (take-all 0 s (le-of-eq l)) ∙ ap (λ (n : ℕ). strung n (λ i. piece f e nonce m (first + i) (block s i))) none
+    where
+      none : 0 ≡ blocksOf (length s)
+      none = omega arith
+
+  pub through-last : (k : ℕ) → k ≡ (length s - 1) / 16 → 0 < length s → 16 * first + length s ≡ m
+      → strung k (λ i. f (textTweak nonce (first + i)) (block s i)) ++ added (drop (16 * k) s) (e (specialTweak nonce (lastTextMark m)) (lengthBlock (length s - 16 * k)))
+      ≡ through f e nonce m first s
+  unfolding through strung under piece
+  through-last k ek some end =
+      let n : suc k ≡ blocksOf (length s) = omega arith in
+      let b : drop (16 * k) s ≡ block s k = sym (take-all 16 (drop (16 * k) s) (rw length-drop (omega arith))) in
+      let r : length s - 16 * k ≡ length (block s k) = sym (length-drop (16 * k) s) ∙ ap length b in
+      let last : false ≡ inner m (first + k) = sym (le-ltb (suc (first + k)) (blocksOf m) (omega arith)) in
+      (λ j. strung-ext k under (λ i. piece f e nonce m (first + i) (block s i)) (λ i h. piece-inner i (omega arith)) j ++ added (b j) (e (specialTweak nonce (lastTextMark m)) (lengthBlock (r j))))
+      ∙ ap (λ (t : Bool). strung k (λ i. piece f e nonce m (first + i) (block s i)) ++ cond t (f (textTweak nonce (first + k)) (block s k)) (added (block s k) (e (specialTweak nonce (lastTextMark m)) (lengthBlock (length (block s k)))))) last
+      ∙ ap (λ (j : ℕ). strung j (λ i. piece f e nonce m (first + i) (block s i))) n

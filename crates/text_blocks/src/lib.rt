@@ -1,0 +1,135 @@
+// Text blocks. A function with a precondition serves our own crates, which have tested what it asks.
+use cipher::suite::Suite;
+use tweak::TextBlock;
+ghost use mathlib.Core.Bool.{true, cond};
+ghost use mathlib.Core.Path.{_≡_};
+ghost use mathlib.Core.List.{_++_};
+ghost use Prim.Native.Nat.{_+_, _*_, _/_, _^_, _<_, _≤_, min};
+ghost use lib.ListN.{length, drop};
+ghost use Rattle.calls.specs.Calls.{lengthBlock};
+ghost use Rattle.calls.specs.Pieces.{through};
+ghost use Rattle.calls.specs.Tweak.{textTweak, specialTweak, full, lastTextMark};
+ghost use Rattle.cipher.specs.Suite.{listed};
+ghost use Rattle.blockwise.specs.Blocks.{strung, block};
+ghost use Rattle.text_blocks.specs.Under.{enciphers, either};
+ghost use Rattle.text_blocks.specs.Text.{Usable, Part};
+
+// Whether the last block of n bytes is full.
+pub fn is_full(n: usize) -> bool
+    ensures { λ r. ⌜ r ≡ full n ⌝ }
+{
+    (0 < n) & (n % 16 == 0)
+}
+
+// The one mark of n bytes whose last block is full, the other of n bytes whose last is not.
+pub fn mark(n: usize, whole: u8, partial: u8) -> u8
+    ensures { λ r. ⌜ r ≡ cond (full n) whole partial ⌝ }
+{
+    if is_full(n) {
+        return whole;
+    }
+    partial
+}
+
+// n, but at most 64.
+pub fn few(n: usize) -> usize
+    ensures { λ r. ⌜ r ≡ min n 64 ⌝ }
+{
+    if n < 64 { n } else { 64 }
+}
+
+// One block enciphered.
+pub fn encipher_one(suite: Suite, key: [u8; 16], tweak: [u8; 16], block: [u8; 16]) -> [u8; 16]
+    requires { ⌜ listed (suite .cipher) (suite .steps) ≡ true ⌝ }
+    ensures { λ r. ⌜ r ≡ enciphers suite key tweak block ⌝ }
+{
+    let o = cipher::block::encipher(suite, key, tweak, block);
+    o.block
+}
+
+// The first k blocks of s, each under the tweak of its number, from `first` on.
+fn chunk(
+    ahead: bool,
+    suite: Suite,
+    key: [u8; 16],
+    nonce: &[u8],
+    first: TextBlock,
+    k: usize,
+    s: &mut [u8],
+)
+    requires { ⌜ Usable suite (now nonce) × (k ≤ 64) × (16 * k ≤ length (now s)) × (first .0 + k < 2 ^ 64) ⌝ }
+    ensures { λ r. ⌜ now (s .exit) ≡ strung k (λ i. either ahead suite key (textTweak (now (nonce .entry)) (first .0 + i)) (block (now (s .entry)) i)) ++ drop (16 * k) (now (s .entry)) ⌝ }
+{
+    let mut tweaks = [0u8; 1024];
+    tweak::text_tweaks(nonce, first, k, &mut tweaks);
+    let end = 16 * k;
+    if ahead {
+        cipher::blocks::encipher_blocks(suite, key, &tweaks[..end], s);
+    } else {
+        cipher::blocks::decipher_blocks(suite, key, &tweaks[..end], s);
+    }
+}
+
+// The whole blocks of s likewise.
+fn blocks(ahead: bool, suite: Suite, key: [u8; 16], nonce: &[u8], first: TextBlock, s: &mut [u8])
+    requires { ⌜ Usable suite (now nonce) × (first .0 + length (now s) < 2 ^ 63) ⌝ }
+    ensures { λ r. ⌜ now (s .exit) ≡ strung (length (now (s .entry)) / 16) (λ i. either ahead suite key (textTweak (now (nonce .entry)) (first .0 + i)) (block (now (s .entry)) i)) ++ drop (16 * (length (now (s .entry)) / 16)) (now (s .entry)) ⌝ }
+{
+    let number = first.0;
+    let n = s.len() / 16;
+    let mut done: usize = 0;
+    while done < n {
+        let k = few(n - done);
+        let at = 16 * done;
+        chunk(
+            ahead,
+            suite,
+            key,
+            nonce,
+            TextBlock(number + (done as u64)),
+            k,
+            &mut s[at..],
+        );
+        done += k;
+    }
+}
+
+// What is added to the last block of a text of m bytes, which has r.
+fn pad(suite: Suite, key: [u8; 16], nonce: &[u8], m: usize, r: usize) -> [u8; 16]
+    requires { ⌜ Usable suite (now nonce) × (r ≤ 16) ⌝ }
+    ensures { λ r'. ⌜ r' ≡ enciphers suite key (specialTweak (now (nonce .entry)) (lastTextMark m)) (lengthBlock r) ⌝ }
+{
+    let mut b = [0u8; 16];
+    b[15] = (8 * r) as u8;
+    let t = tweak::special_tweak(nonce, mark(m, 0xC0, 0xC8));
+    encipher_one(suite, key, t, b)
+}
+
+// A part of a text of m bytes, from block `first` on.
+pub fn through(
+    ahead: bool,
+    suite: Suite,
+    key: [u8; 16],
+    nonce: &[u8],
+    m: usize,
+    first: TextBlock,
+    s: &mut [u8],
+)
+    requires { ⌜ Usable suite (now nonce) × Part m (first .0) (length (now s)) ⌝ }
+    ensures { λ r. ⌜ now (s .exit) ≡ through (either ahead suite key) (enciphers suite key) (now (nonce .entry)) m (first .0) (now (s .entry)) ⌝ }
+{
+    let number = first.0;
+    let n = s.len();
+    let end = 16 * (number as usize) + n;
+    if end < m {
+        blocks(ahead, suite, key, nonce, first, s);
+        return;
+    }
+    if n == 0 {
+        return;
+    }
+    let at = 16 * ((n - 1) / 16);
+    blocks(ahead, suite, key, nonce, first, &mut s[..at]);
+    let p = pad(suite, key, nonce, m, n - at);
+    sums::add_to(&mut s[at..], p);
+}
