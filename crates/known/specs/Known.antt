@@ -4,10 +4,15 @@ use mathlib.Core.Path.{_≡_}
 use mathlib.Core.List.{List, [], _∷_}
 use Prim.Native.Nat.{ℕ}
 use lib.ListN.{length, getD, replicate}
-use Rattle.boxes.specs.Sbox
-use Rattle.boxes.specs.Lbox
+use Rattle.sbox.specs.Sbox
+use Rattle.lbox.specs.Lbox
 use Rattle.calls.specs.Calls.{calls}
 use Rattle.calls.specs.Tweak.{textTweak, headerTweak}
+use Rattle.cipher.specs.declared.suite.Suite.{Suite}
+use Rattle.format.specs.Kind.{kind10}
+use Rattle.format.specs.Layout.{bookLength}
+use Rattle.format.specs.Sealings.{openingFields, unitHeader, unitSealing, closeSealing, cipherCalls}
+use Rattle.format.specs.Unit.{BookUnit, unitOf, detailsOf}
 use Rattle.rounds.specs.Tweakey.{φ, rotatedRow}
 
 pub record Value : Type 0 where
@@ -29,6 +34,14 @@ halves a b = a ∷ 0 ∷ 0 ∷ 0 ∷ b ∷ 0 ∷ 0 ∷ 0 ∷ []
 -- how many calls there are for a header of a bytes and a text of m
 abbrev callsFor : ℕ → ℕ → ℕ
 callsFor a m = length (calls (0 ∷ []) (replicate a 0) (replicate m 0))
+
+-- Scream with 10 steps
+abbrev scream10 : Suite
+scream10 = record { cipher = 1; steps = 10 }
+
+-- a unit from en to de with a source of 5 bytes and a target of 6
+abbrev enToDe : BookUnit
+enToDe = unitOf (0x65 ∷ 0x6E ∷ []) (0x64 ∷ 0x65 ∷ []) (replicate 5 0) (replicate 6 0)
 
 unfoldable pub known : List Value
 known =
@@ -56,6 +69,13 @@ known =
     is (callsFor 16 16) 3 ∷
     is (callsFor 17 17) 5 ∷
     is (callsFor 25 13) 4 ∷
+    -- 8: "Book 7, Scream 10 steps, opens 01 00 08 00 00 00 00 00 00 00 07 02 00 02 01 0A"
+    are (openingFields scream10 7) (0x01 ∷ 0x00 ∷ 0x08 ∷ 0x00 ∷ 0x00 ∷ 0x00 ∷ 0x00 ∷ 0x00 ∷ 0x00 ∷ 0x00 ∷ 0x07 ∷ 0x02 ∷ 0x00 ∷ 0x02 ∷ 0x01 ∷ 0x0A ∷ []) ∷
+    -- "unit 0, en to de, goes on 10 00 06 00 00 65 6E 64 65"
+    are (unitHeader kind10 0 (detailsOf kind10 enToDe)) (0x10 ∷ 0x00 ∷ 0x06 ∷ 0x00 ∷ 0x00 ∷ 0x65 ∷ 0x6E ∷ 0x64 ∷ 0x65 ∷ []) ∷
+    -- "with s 5, t 6 and a close it has 84 bytes, 7 calls": the sum of the lengths, and the call lists themselves
+    is (bookLength kind10 (enToDe ∷ [])) 84 ∷
+    is (length (cipherCalls (unitSealing kind10 scream10 7 0 enToDe ∷ closeSealing kind10 scream10 7 1 ∷ []))) 7 ∷
     []
 
 -- each value of a list is computed as it is stated

@@ -1,11 +1,13 @@
-// Runs the cases that another implementation made and writes what comes out; then the limits of known values 9. The file
+// Runs the cases that another implementation made and writes what comes out; then the limits of known values 9, 10 and 11. The file
 // `stdout` beside this folder is made from the same cases by tests/expected.
+use cipher::refusal::Answer;
 use cipher::refusal::Refusal;
 use cipher::suite::Suite;
 use libc::STDOUT_FILENO;
+use sealing::seal::SealAnswer;
 use tae::open::OpenAnswer;
-use tae::seal::SealAnswer;
 use tae::verify::VerifyAnswer;
+use writer::Writer;
 ghost use Prim.Native.Nat.{_<_, _≤_};
 ghost use lib.ListN.{length};
 ghost use Rattle.io.specs.Counts.{Counts};
@@ -144,7 +146,7 @@ fn run_cipher(suite: Suite, s: &[u8], at: usize)
 // The sealed bytes and the number of cipher calls.
 fn run_seal(suite: Suite, key: &[u8], nonce: &[u8], header: &[u8], text: &[u8]) {
     let mut out = [0u8; 16384];
-    match tae::seal::seal(suite, key, nonce, header, text, &mut out) {
+    match sealing::seal::seal(suite, key, nonce, header, text, &mut out) {
         SealAnswer::Sealed(n, calls) => {
             write_bytes(&out, n);
             write(b" ");
@@ -255,11 +257,52 @@ fn run_limit(name: &[u8], header: &[u8], text: &[u8])
     write(name);
     write_number(header.len() + text.len());
     write(b" ");
-    match tae::seal::seal(suite, &[0u8; 16], &[0u8; 15], header, text, &mut out) {
+    match sealing::seal::seal(suite, &[0u8; 16], &[0u8; 15], header, text, &mut out) {
         SealAnswer::Sealed(_, _) => write(b"passes"),
         SealAnswer::Refused(why) => write_refusal(why),
     }
     write(b"\n");
+}
+
+fn write_answer(answer: Answer) {
+    match answer {
+        Answer::Done => write(b"passes\n"),
+        Answer::Refused(why) => {
+            write_refusal(why);
+            write(b"\n");
+        }
+    }
+}
+
+// Whether a book can be started in this buffer.
+fn run_start(buf: &mut [u8]) {
+    let suite = Suite {
+        cipher: Suite::SCREAM,
+        steps: 10,
+    };
+    write(b"start ");
+    write_number(buf.len());
+    write(b" ");
+    let started = Writer::start(suite, &[0u8; 16], 7, buf);
+    let answer = started.answer;
+    write_answer(answer);
+}
+
+// Whether a unit with this source can be added to a new book.
+fn run_source(source: &[u8]) {
+    let mut buf = [0u8; 8192];
+    let suite = Suite {
+        cipher: Suite::SCREAM,
+        steps: 10,
+    };
+    write(b"source ");
+    write_number(source.len());
+    write(b" ");
+    let started = Writer::start(suite, &[0u8; 16], 7, &mut buf);
+    let w = started.writer;
+    let added = w.add(*b"en", *b"de", source, b"", &mut buf);
+    let answer = added.answer;
+    write_answer(answer);
 }
 
 fn main() {
@@ -270,4 +313,9 @@ fn main() {
     run_limit(b"text ", b"", &[0u8; 2049]);
     run_limit(b"header ", &[0u8; 1024], b"");
     run_limit(b"header ", &[0u8; 1025], b"");
+    run_start(&mut [0u8; 15]);
+    run_start(&mut [0u8; 16]);
+    run_source(&[0u8; 4096]);
+    run_source(&[0u8; 4097]);
+    run_source(b"");
 }

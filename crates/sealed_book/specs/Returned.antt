@@ -1,17 +1,30 @@
 -- What the functions for C return, and what they leave in the numbers that they are lent.
+use mathlib.Core.List.{List}
 use Prim.Native.Nat.{ℕ}
 use Rattle.cipher.specs.declared.refusal.Answer.{Answer}
 use Rattle.cipher.specs.declared.refusal.Answer.the-variants.{Done, Refused}
+use Rattle.cipher.specs.declared.suite.Suite.{Suite}
 use Rattle.cipher.specs.Refusal.{number}
-use Rattle.tae.specs.declared.seal.SealAnswer.{SealAnswer}
-use Rattle.tae.specs.declared.seal.SealAnswer.the-variants.{Sealed, Refused as SealRefused}
+use Rattle.sealing.specs.declared.seal.SealAnswer.{SealAnswer}
+use Rattle.sealing.specs.declared.seal.SealAnswer.the-variants.{Sealed, Refused as SealRefused}
 use Rattle.tae.specs.declared.open.OpenAnswer.{OpenAnswer}
 use Rattle.tae.specs.declared.open.OpenAnswer.the-variants.{Opened, Refused as OpenRefused}
+use Rattle.writer.specs.declared.Writer.{Writer}
+use Rattle.writer_bytes.specs.WriterBytes.{writerBytes}
+
+-- a suite of two bytes
+abbrev pub suiteOf : ℕ → ℕ → Suite
+suiteOf cipher steps = record { cipher = cipher; steps = steps }
 
 -- 0, or the refusal's number
 abbrev pub returned : Answer → ℕ
 returned Done = 0
 returned (Refused why) = number why
+
+-- the writer's 64 bytes after a call: those of the writer that was handed back, or what was there
+abbrev pub bytesAfter : Answer → Writer → List ℕ → List ℕ
+bytesAfter Done w old = writerBytes w
+bytesAfter (Refused why) w old = old
 
 abbrev pub sealReturned : SealAnswer → ℕ
 sealReturned (Sealed len count) = 0

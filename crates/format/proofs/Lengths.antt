@@ -1,0 +1,160 @@
+-- The lengths of a book's parts, of the whole and of its call list; one unit more at the end.
+use mathlib.Core.Path.{_≡_, refl, sym, ap, _∙_}
+use mathlib.Core.Bool.{true, _&&_, and-eq-true-iff}
+use mathlib.Core.List.{List, [], _∷_, _++_, append-assoc, append-nil}
+use Prim.Native.Nat.{ℕ, suc, _+_, _≤_}
+use native.Mathlib.Omega.{arith}
+use borrow.Author.Tests.{leb-true}
+use lib.Dec.{leb}
+use lib.ListN.{length, length-append, length-take, length-drop}
+use Rattle.bits.proofs.BigEndian.{length-bigEndian}
+use Rattle.calls.specs.Calls.{CipherCall}
+use Rattle.calls.specs.Tweak.{blocksOf}
+use Rattle.calls.proofs.Distinct.{length-calls}
+use Rattle.cipher.specs.declared.suite.Suite.{Suite}
+use Rattle.sealing.proofs.Sealed.{length-sealed}
+use Rattle.format.specs.Each.{Each, none, more}
+use Rattle.format.specs.Kind.{Kind}
+use Rattle.format.specs.Layout.{sealedFields, unitBytes, closeBytes, unitsBytes, bookBytes, unitLength, closeLength, bookLength}
+use Rattle.format.specs.Sealings.{
+  Sealing,
+  openingFields,
+  unitHeader,
+  closeHeader,
+  nonceOf,
+  unitSealing,
+  closeSealing,
+  unitSealings,
+  sealedBytes,
+  sealingCalls,
+  cipherCalls,
+  callTotal,
+}
+use Rattle.format.specs.Unit.{BookUnit, Allowed, detailsOf, detailsLength, inRange, unitText}
+use Rattle.format.proofs.Details.{length-detailsOf}
+use Rattle.format.proofs.Fields.{length-field}
+use Rattle.format.proofs.Texts.{length-unitText}
+
+-- fields and nonces
+
+pub length-openingFields : (suite : Suite) (number : ℕ) → length (openingFields suite number) ≡ 16
+unfolding openingFields
+length-openingFields suite number = simp (length-append, length-field, length-bigEndian) (omega arith)
+
+pub length-nonceOf : (number n : ℕ) → length (nonceOf number n) ≡ 12
+unfolding nonceOf
+length-nonceOf number n = simp (length-append, length-bigEndian) (omega arith)
+
+pub length-unitHeader : (kind : Kind) (n : ℕ) (details : List ℕ) → length (unitHeader kind n details) ≡ 3 + kind .numberBytes + length details
+unfolding unitHeader
+length-unitHeader kind n details = simp (length-field, length-append, length-bigEndian) (omega arith)
+
+pub length-closeHeader : (kind : Kind) (n : ℕ) → length (closeHeader kind n) ≡ 3 + kind .numberBytes
+unfolding closeHeader
+length-closeHeader kind n = simp (length-field, length-bigEndian)
+
+-- the range that s and t are in
+pub range-told : (s t : ℕ) → inRange s t ≡ true → (1 ≤ s) × (s ≤ 4096) × (t ≤ 4096)
+range-told s t e =
+    let low = and-eq-true-iff (leb 1 s) (leb s 4096 && leb t 4096) .0 e in
+    let high = and-eq-true-iff (leb s 4096) (leb t 4096) .0 (low .1) in
+    (leb-true 1 s (low .0), leb-true s 4096 (high .0), leb-true t 4096 (high .1))
+
+-- sealed bytes: as many as the text has, and the tag
+
+pub length-sealedBytes : (suite : Suite) (key : List ℕ) (s : Sealing) → length (s .nonce) ≤ 15
+    → length (sealedBytes suite key s) ≡ length (s .text) + 16
+unfolding sealedBytes
+length-sealedBytes suite key s short = length-sealed suite key (s .nonce) (s .header) (s .text) short (length (s .text)) refl
+
+pub length-sealedFields : (m : ℕ) (s : List ℕ) → m ≤ length s → length (sealedFields m s) ≡ 6 + length s
+unfolding sealedFields
+length-sealedFields m s h = simp (length-append, length-field, length-take, length-drop) (omega arith)
+
+-- units, the close and the book
+
+module _ (kind : Kind) (suite : Suite) (key : List ℕ) (number : ℕ) where
+  pub length-unitSealed : (n : ℕ) (u : BookUnit)
+      → length (sealedBytes suite key (unitSealing kind suite number n u)) ≡ 18 + (length (u .source) + length (u .target))
+  unfolding unitSealing
+  length-unitSealed n u =
+      length-sealedBytes suite key (unitSealing kind suite number n u) (simp (length-nonceOf) (omega arith))
+      ∙ omega (arith, length-unitText (u .source) (u .target))
+
+  pub length-closeSealed : (n : ℕ) → length (sealedBytes suite key (closeSealing kind suite number n)) ≡ 16
+  unfolding closeSealing
+  length-closeSealed n = length-sealedBytes suite key (closeSealing kind suite number n) (simp (length-nonceOf) (omega arith))
+
+  pub length-unitBytes : (n : ℕ) (u : BookUnit) → length (detailsOf kind u) ≡ detailsLength kind
+      → length (unitBytes kind suite key number n u) ≡ unitLength kind (length (u .source)) (length (u .target))
+  unfolding unitBytes
+  length-unitBytes n u d =
+      let text : List ℕ = unitText (u .source) (u .target) in
+      let s : List ℕ = sealedBytes suite key (unitSealing kind suite number n u) in
+      let lt : length text ≡ 2 + (length (u .source) + length (u .target)) = length-unitText (u .source) (u .target) in
+      let ls : length s ≡ 18 + (length (u .source) + length (u .target)) = length-unitSealed n u in
+      length-append (unitHeader kind n (detailsOf kind u)) (sealedFields (length text) s)
+      ∙ omega
+      (arith, length-unitHeader kind n (detailsOf kind u), d, length-sealedFields (length text) s (omega arith))
+
+  pub length-closeBytes : (n : ℕ) → length (closeBytes kind suite key number n) ≡ closeLength kind
+  unfolding closeBytes
+  length-closeBytes n = simp (length-append, length-field) (omega (arith, length-closeHeader kind n, length-closeSealed n))
+
+  pub unitsBytes-snoc : (n : ℕ) (us : List BookUnit) (u : BookUnit)
+      → unitsBytes kind suite key number n (us ++ u ∷ []) ≡ unitsBytes kind suite key number n us ++ unitBytes kind suite key number (n + length us) u
+  unfolding unitsBytes
+  unitsBytes-snoc n [] u = append-nil (unitBytes kind suite key number n u) ∙ ap (λ (k : ℕ). unitBytes kind suite key number k u) (omega arith)
+  unitsBytes-snoc n (v ∷ us) u =
+      let b : List ℕ = unitBytes kind suite key number n v in
+      ap (λ (x : List ℕ). b ++ x)
+      (unitsBytes-snoc (suc n) us u
+      ∙ ap (λ (k : ℕ). unitsBytes kind suite key number (suc n) us ++ unitBytes kind suite key number k u) (omega arith))
+      ∙ sym (append-assoc b (unitsBytes kind suite key number (suc n) us) (unitBytes kind suite key number (n + length (v ∷ us)) u))
+
+  -- a book's length counts its first fields and its close too
+  pub length-unitsBytes : (n : ℕ) (us : List BookUnit) → Each (Allowed kind) us
+      → 16 + (length (unitsBytes kind suite key number n us) + closeLength kind) ≡ bookLength kind us
+  unfolding unitsBytes bookLength
+  length-unitsBytes n [] none = omega arith
+  length-unitsBytes n (u ∷ us) (more a each) =
+      let first = length-unitBytes n u (length-detailsOf kind u (a .given)) in
+      let rest = length-unitsBytes (suc n) us each in
+      simp length-append (omega arith)
+
+  pub length-bookBytes : (us : List BookUnit) → Each (Allowed kind) us → length (bookBytes kind suite key number us) ≡ bookLength kind us
+  unfolding bookBytes
+  length-bookBytes us each =
+      simp (length-append, length-openingFields, length-closeBytes) (omega (arith, length-unitsBytes 0 us each))
+
+-- sealings and their cipher calls
+
+pub unitSealings-snoc : (kind : Kind) (suite : Suite) (number n : ℕ) (us : List BookUnit) (u : BookUnit)
+    → unitSealings kind suite number n (us ++ u ∷ []) ≡ unitSealings kind suite number n us ++ unitSealing kind suite number (n + length us) u ∷ []
+unfolding unitSealings
+unitSealings-snoc kind suite number n [] u = ap (λ (k : ℕ). unitSealing kind suite number k u ∷ []) (omega arith)
+unitSealings-snoc kind suite number n (v ∷ us) u =
+    ap (λ (x : List Sealing). unitSealing kind suite number n v ∷ x)
+    (unitSealings-snoc kind suite number (suc n) us u
+    ∙ ap (λ (k : ℕ). unitSealings kind suite number (suc n) us ++ unitSealing kind suite number k u ∷ []) (omega arith))
+
+pub length-sealingCalls : (s : Sealing) → length (sealingCalls s) ≡ blocksOf (length (s .header)) + blocksOf (length (s .text)) + 1
+unfolding sealingCalls
+length-sealingCalls s = length-calls (s .nonce) (s .header) (s .text)
+
+pub length-cipherCalls : (ss : List Sealing) → length (cipherCalls ss) ≡ callTotal ss
+unfolding cipherCalls callTotal
+length-cipherCalls [] = refl
+length-cipherCalls (s ∷ ss) =
+    length-append (sealingCalls s) (cipherCalls ss) ∙ (λ j. length-sealingCalls s j + length-cipherCalls ss j)
+
+pub cipherCalls-append : (ss ts : List Sealing) → cipherCalls (ss ++ ts) ≡ cipherCalls ss ++ cipherCalls ts
+unfolding cipherCalls
+cipherCalls-append [] ts = refl
+cipherCalls-append (s ∷ ss) ts =
+    ap (λ (x : List CipherCall). sealingCalls s ++ x) (cipherCalls-append ss ts) ∙ sym (append-assoc (sealingCalls s) (cipherCalls ss) (cipherCalls ts))
+
+pub callTotal-append : (ss ts : List Sealing) → callTotal (ss ++ ts) ≡ callTotal ss + callTotal ts
+unfolding callTotal
+callTotal-append [] ts = omega arith
+callTotal-append (s ∷ ss) ts = omega (arith, callTotal-append ss ts)

@@ -1,0 +1,10 @@
+pub mod Each
+pub mod Reading
+pub mod Fields
+pub mod Texts
+pub mod Languages
+pub mod Details
+pub mod Headers
+pub mod Lengths
+pub mod Apart
+pub mod One

@@ -1,0 +1,138 @@
+-- One string is the book of at most one suite, number and list of units.
+use mathlib.Core.Path.{_≡_, refl, sym, ap, _∙_}
+use mathlib.Core.List.{List, [], _∷_, _++_, append-assoc, append-nil}
+use Prim.Native.Nat.{ℕ, suc, _+_, _≤_, _<_}
+use native.Mathlib.Omega.{arith}
+use lib.ListN.{length, take, drop, length-drop, take-append-drop}
+use lib.Seq.{length-take-le}
+use Rattle.bits.specs.Bytes.{Bytes, bigEndian}
+use Rattle.bits.proofs.BigEndian.{bytes-bigEndian}
+use Rattle.bits.proofs.Bytes.{bytes-append}
+use Rattle.cipher.specs.declared.suite.Suite.{Suite}
+use Rattle.sealing.specs.Seal.{sealed}
+use Rattle.tae.proofs.Demand2.{image-one}
+use Rattle.format.specs.Each.{Each, none, more}
+use Rattle.format.specs.Field.{field}
+use Rattle.format.specs.Kind.{Kind, WellFormed}
+use Rattle.format.specs.Layout.{sealedFields, unitBytes, closeBytes, unitsBytes, bookBytes, Bookable}
+use Rattle.format.specs.Sealings.{Sealing, openingFields, unitHeader, closeHeader, nonceOf, unitSealing, closeSealing, sealedBytes}
+use Rattle.format.specs.Unit.{BookUnit, Allowed, detailsOf, unitText}
+use Rattle.format.proofs.Fields.{field-same, field-inj}
+use Rattle.format.proofs.Headers.{unitHeader-parts, unitHeader-no-close, openingFields-inj}
+use Rattle.format.proofs.Details.{length-detailsOf, unit-same}
+use Rattle.format.proofs.Lengths.{length-nonceOf, length-unitSealed, range-told}
+use Rattle.format.proofs.Texts.{length-unitText, bytes-unitText, unitText-inj}
+
+pub bytes-nonceOf : (number n : ℕ) → Bytes (nonceOf number n)
+unfolding nonceOf
+bytes-nonceOf number n = bytes-append (bigEndian 8 number) (bigEndian 4 n) (bytes-bigEndian 8 number) (bytes-bigEndian 4 n)
+
+-- fields 11 and 12 that begin one string hold the same sealed bytes
+pub sealedFields-inj : (m₁ m₂ : ℕ) (s₁ s₂ : List ℕ) {r₁ r₂ : List ℕ} → length s₁ ≡ m₁ + 16 → length s₂ ≡ m₂ + 16 → m₁ < 65536 → m₂ < 65536
+    → sealedFields m₁ s₁ ++ r₁ ≡ sealedFields m₂ s₂ ++ r₂ → (s₁ ≡ s₂) × (r₁ ≡ r₂)
+unfolding sealedFields
+sealedFields-inj m₁ m₂ s₁ s₂ {r₁} {r₂} l₁ l₂ h₁ h₂ e =
+    let c₁ : length (take m₁ s₁) ≡ m₁ = length-take-le m₁ s₁ (omega arith) in
+    let c₂ : length (take m₂ s₂) ≡ m₂ = length-take-le m₂ s₂ (omega arith) in
+    let f = field-inj 0x11 0x11 (take m₁ s₁) (take m₂ s₂) {r₁ = field 0x12 (drop m₁ s₁) ++ r₁} {r₂ = field 0x12 (drop m₂ s₂) ++ r₂}
+    (omega arith) (omega arith)
+    (sym (append-assoc (field 0x11 (take m₁ s₁)) (field 0x12 (drop m₁ s₁)) r₁) ∙ e ∙ append-assoc (field 0x11 (take m₂ s₂)) (field 0x12 (drop m₂ s₂)) r₂) in
+    let g = field-same 0x12 0x12 (drop m₁ s₁) (drop m₂ s₂) {r₁ = r₁} {r₂ = r₂} (omega (arith, length-drop m₁ s₁, length-drop m₂ s₂)) (f .2) in
+    (sym (take-append-drop m₁ s₁) ∙ (λ i. f .1 i ++ g .1 i) ∙ take-append-drop m₂ s₂, g .2)
+
+-- sealed bytes have one text under one nonce and header
+pub sealedBytes-inj : (suite : Suite) (key : List ℕ) → length key ≡ 16 → Bytes key → (s₁ s₂ : Sealing)
+    → length (s₁ .nonce) ≤ 15 → Bytes (s₁ .nonce) → Bytes (s₁ .text) → Bytes (s₂ .text) → s₁ .nonce ≡ s₂ .nonce → s₁ .header ≡ s₂ .header
+    → sealedBytes suite key s₁ ≡ sealedBytes suite key s₂ → s₁ .text ≡ s₂ .text
+unfolding sealedBytes
+sealedBytes-inj suite key long bytes s₁ s₂ short nonce b₁ b₂ hn hh e =
+    image-one (record { cipher = suite .cipher; steps = suite .steps; key = key; nonce = s₁ .nonce; header = s₁ .header })
+    bytes nonce long short (s₁ .text) (s₂ .text) b₁ b₂
+    (e ∙ (λ i. sealed (suite .cipher) (suite .steps) key (sym hn i) (sym hh i) (s₂ .text)))
+
+-- a unit's bytes never begin as a close's
+pub unitBytes-no-close : (kind : Kind) → WellFormed kind → (suite : Suite) (key : List ℕ) (number n m : ℕ) (u : BookUnit) (r₁ r₂ : List ℕ)
+    → unitBytes kind suite key number n u ++ r₁ ≡ closeBytes kind suite key number m ++ r₂ → ⊥
+unfolding unitBytes closeBytes
+unitBytes-no-close kind wf suite key number n m u r₁ r₂ e =
+    let head = unitHeader kind n (detailsOf kind u) in
+    let rest = sealedFields (length (unitText (u .source) (u .target))) (sealedBytes suite key (unitSealing kind suite number n u)) in
+    let tag = field 0x12 (sealedBytes suite key (closeSealing kind suite number m)) in
+    unitHeader-no-close kind n m wf (detailsOf kind u) (rest ++ r₁) (tag ++ r₂) (sym (append-assoc head rest r₁) ∙ e ∙ append-assoc (closeHeader kind m) tag r₂)
+
+module _ (kind : Kind) (suite : Suite) (key : List ℕ) (number : ℕ) (long : length key ≡ 16) (bytes : Bytes key) where
+  -- units' bytes that begin one string are the same unit's
+  pub unitBytes-inj : (n : ℕ) {u₁ u₂ : BookUnit} {r₁ r₂ : List ℕ} → Allowed kind u₁ → Allowed kind u₂
+      → unitBytes kind suite key number n u₁ ++ r₁ ≡ unitBytes kind suite key number n u₂ ++ r₂ → (u₁ ≡ u₂) × (r₁ ≡ r₂)
+  unfolding unitBytes unitSealing
+  unitBytes-inj n {u₁} {u₂} {r₁} {r₂} a₁ a₂ e =
+      let header = unitHeader-parts kind n n (detailsOf kind u₁) (detailsOf kind u₂) {r₁ = fields u₁ ++ r₁} {r₂ = fields u₂ ++ r₂}
+      (length-detailsOf kind u₁ (a₁ .given) ∙ sym (length-detailsOf kind u₂ (a₂ .given)))
+      (sym (append-assoc (unitHeader kind n (detailsOf kind u₁)) (fields u₁) r₁) ∙ e ∙ append-assoc (unitHeader kind n (detailsOf kind u₂)) (fields u₂) r₂) in
+      let sealed = sealedFields-inj (length (text u₁)) (length (text u₂)) (sealing u₁) (sealing u₂) {r₁ = r₁} {r₂ = r₂}
+      (whole u₁) (whole u₂) (small u₁ a₁ .1) (small u₂ a₂ .1) (header .2) in
+      let same = sealedBytes-inj suite key long bytes (unitSealing kind suite number n u₁) (unitSealing kind suite number n u₂)
+      (omega (arith, length-nonceOf number n)) (bytes-nonceOf number n) (plain u₁ a₁) (plain u₂ a₂)
+      refl (ap (λ (d : List ℕ). openingFields suite number ++ unitHeader kind n d) (header .1)) (sealed .0) in
+      let texts = unitText-inj (u₁ .source) (u₂ .source) (u₁ .target) (u₂ .target) (small u₁ a₁ .0) (small u₂ a₂ .0) same in
+      (unit-same kind (a₁ .given) (a₂ .given) (header .1) (texts .0) (texts .1), sealed .1)
+    where
+      text : BookUnit → List ℕ
+      text u = unitText (u .source) (u .target)
+
+      sealing : BookUnit → List ℕ
+      sealing u = sealedBytes suite key (unitSealing kind suite number n u)
+
+      fields : BookUnit → List ℕ
+      fields u = sealedFields (length (text u)) (sealing u)
+
+      whole : (u : BookUnit) → length (sealing u) ≡ length (text u) + 16
+      whole u = length-unitSealed kind suite key number n u ∙ omega (arith, length-unitText (u .source) (u .target))
+
+      small : (u : BookUnit) → Allowed kind u → (length (u .source) < 65536) × (length (text u) < 65536)
+      small u a = omega (arith, range-told (length (u .source)) (length (u .target)) (a .range), length-unitText (u .source) (u .target))
+
+      plain : (u : BookUnit) → Allowed kind u → Bytes (text u)
+      plain u a = bytes-unitText (u .source) (u .target) (a .given .sourceBytes) (a .given .targetBytes)
+
+  -- what is left of a book from unit n on, with m units in all
+  abbrev left : ℕ → List BookUnit → ℕ → List ℕ
+  left n us m = unitsBytes kind suite key number n us ++ closeBytes kind suite key number m
+
+  left-more : (n m : ℕ) (u : BookUnit) (us : List BookUnit) → left n (u ∷ us) m ≡ unitBytes kind suite key number n u ++ left (suc n) us m
+  unfolding unitsBytes
+  left-more n m u us = append-assoc (unitBytes kind suite key number n u) (unitsBytes kind suite key number (suc n) us) (closeBytes kind suite key number m)
+
+  module _ (wf : WellFormed kind) where
+    -- a unit's bytes are not a close's
+    more-left : (n m₁ m₂ : ℕ) (u : BookUnit) (us : List BookUnit) → left n [] m₁ ≡ left n (u ∷ us) m₂ → ⊥
+    unfolding unitsBytes
+    more-left n m₁ m₂ u us e =
+        unitBytes-no-close kind wf suite key number n m₁ u (left (suc n) us m₂) []
+        (sym (left-more n m₂ u us) ∙ sym e ∙ sym (append-nil (closeBytes kind suite key number m₁)))
+
+    -- the units that are left are the same
+    units-one : (n m₁ m₂ : ℕ) {us₁ us₂ : List BookUnit} → Each (Allowed kind) us₁ → Each (Allowed kind) us₂ → left n us₁ m₁ ≡ left n us₂ m₂ → us₁ ≡ us₂
+    units-one n m₁ m₂ none none e = refl
+    units-one n m₁ m₂ none (more {a = u} {l = us} a each) e = absurd (more-left n m₁ m₂ u us e)
+    units-one n m₁ m₂ (more {a = u} {l = us} a each) none e = absurd (more-left n m₂ m₁ u us (sym e))
+    units-one n m₁ m₂ (more {a = u₁} {l = us₁} a₁ each₁) (more {a = u₂} {l = us₂} a₂ each₂) e =
+        let first : (u₁ ≡ u₂) × (left (suc n) us₁ m₁ ≡ left (suc n) us₂ m₂) =
+        unitBytes-inj n a₁ a₂ (sym (left-more n m₁ u₁ us₁) ∙ e ∙ left-more n m₂ u₂ us₂) in
+        λ i. first .0 i ∷ units-one (suc n) m₁ m₂ each₁ each₂ (first .1) i
+
+-- one string is one book
+pub book-one : (kind : Kind) → WellFormed kind → {s₁ s₂ : Suite} {key : List ℕ} {n₁ n₂ : ℕ} {us₁ us₂ : List BookUnit}
+    → Bookable kind s₁ key n₁ us₁ → Bookable kind s₂ key n₂ us₂ → bookBytes kind s₁ key n₁ us₁ ≡ bookBytes kind s₂ key n₂ us₂
+    → (s₁ ≡ s₂) × (n₁ ≡ n₂) × (us₁ ≡ us₂)
+unfolding bookBytes
+book-one kind wf {s₁} {s₂} {key} {n₁} {n₂} {us₁} {us₂} b₁ b₂ e =
+    let start = openingFields-inj s₁ s₂ n₁ n₂ {r₁ = rest s₁ n₁ us₁} {r₂ = rest s₂ n₂ us₂} (b₁ .numberFits) (b₂ .numberFits) e in (
+      start .0,
+      start .1,
+      units-one kind s₁ key n₁ (b₁ .keyLong) (b₁ .keyBytes) wf 0 (length us₁) (length us₂) (b₁ .units) (b₂ .units)
+          (start .2 ∙ (λ i. rest (sym (start .0) i) (sym (start .1) i) us₂)),
+    )
+  where
+    rest : Suite → ℕ → List BookUnit → List ℕ
+    rest s n us = unitsBytes kind s key n 0 us ++ closeBytes kind s key n (length us)

@@ -1,0 +1,27 @@
+-- What the code that puts units and closes asks for and hands on; no entry point's contract speaks of it.
+use mathlib.Core.Path.{_≡_}
+use mathlib.Core.Bool.{true}
+use mathlib.Core.List.{List, _++_}
+use Prim.Native.Nat.{ℕ, _^_, _≤_}
+use lib.ListN.{length, take, drop}
+use Rattle.cipher.specs.declared.suite.Suite.{Suite}
+use Rattle.cipher.specs.Suite.{listed}
+use Rattle.format.specs.Field.{field}
+use Rattle.sealing.specs.declared.seal.SealAnswer.{SealAnswer}
+use Rattle.sealing.specs.declared.seal.SealAnswer.the-variants.{Sealed, Refused}
+
+-- the call count in an answer of `seal`
+abbrev pub callCount : SealAnswer → ℕ
+callCount (Sealed len count) = count
+callCount (Refused why) = 0
+
+-- sealed bytes whose ciphertext has m: the ciphertext, and the tag as field 12
+unfoldable pub tagApart : ℕ → List ℕ → List ℕ
+tagApart m s = take m s ++ field 0x12 (drop m s)
+
+-- a listed suite, a nonce of 12 bytes, a header and a text of m bytes below every limit
+pub record Within (suite : Suite) (nonce header : List ℕ) (m : ℕ) : Type 0 where
+  pub listedSuite : listed (suite .cipher) (suite .steps) ≡ true
+  pub nonceLong : length nonce ≡ 12
+  pub headerShort : length header ≤ 2 ^ 24
+  pub textShort : m ≤ 2 ^ 24

@@ -1,0 +1,119 @@
+// A unit and a close, put where a part of the buffer starts. Each public function serves the writer, which has tested what it asks.
+use cipher::suite::Suite;
+use sealing::seal::SealAnswer;
+ghost use mathlib.Core.Bool.{true};
+ghost use mathlib.Core.Path.{_≡_};
+ghost use mathlib.Core.List.{_++_};
+ghost use Prim.Native.Nat.{_+_, _≤_};
+ghost use lib.ListN.{length, take, drop};
+ghost use Rattle.calls.specs.Calls.{calls};
+ghost use Rattle.cipher.specs.Suite.{listed};
+ghost use Rattle.format.specs.Field.{field};
+ghost use Rattle.format.specs.Kind.{writerKind};
+ghost use Rattle.format.specs.Layout.{sealedFields, unitBytes, closeBytes, unitLength, closeLength};
+ghost use Rattle.format.specs.Sealings.{unitSealing, closeSealing, sealingCalls};
+ghost use Rattle.format.specs.Unit.{unitOf, unitText, inRange};
+ghost use Rattle.sealing.specs.Seal.{sealed};
+ghost use Rattle.frames.specs.Parts.{callCount, Within, tagApart};
+
+// The number of cipher calls that a sealing has made.
+fn calls_of(answer: SealAnswer) -> u64
+    ensures { λ r. ⌜ r ≡ callCount answer ⌝ }
+{
+    match answer {
+        SealAnswer::Refused(why) => 0,
+        SealAnswer::Sealed(len, count) => count as u64,
+    }
+}
+
+// The text of a unit.
+fn put_text(source: &[u8], target: &[u8], out: &mut [u8])
+    requires { ⌜ 2 + (length (now source) + length (now target)) ≤ length (now out) ⌝ }
+    ensures { λ r. ⌜ now (out .exit) ≡ unitText (now (source .entry)) (now (target .entry)) ++ drop (2 + (length (now (source .entry)) + length (now (target .entry)))) (now (out .entry)) ⌝ }
+{
+    let s = source.len();
+    let n = 2 + s;
+    format::number::put(s as u64, &mut out[..2]);
+    sums::copy(source, &mut out[2..]);
+    sums::copy(target, &mut out[n..]);
+}
+
+// The tag that stands there, as field 12.
+fn put_tag(out: &mut [u8])
+    requires { ⌜ 19 ≤ length (now out) ⌝ }
+    ensures { λ r. ⌜ now (out .exit) ≡ field 0x12 (take 16 (now (out .entry))) ++ drop 19 (now (out .entry)) ⌝ }
+{
+    let tag = blockwise::block_at(out, 0);
+    let head = format::field::head(0x12, 16);
+    sums::copy(&head, out);
+    blockwise::put_at(out, 3, tag);
+}
+
+// The sealed bytes of the first m bytes, in their place, with the tag as field 12; the number of cipher calls.
+fn seal_here(
+    suite: Suite,
+    key: [u8; 16],
+    nonce: &[u8],
+    header: &[u8],
+    m: usize,
+    out: &mut [u8],
+) -> u64
+    requires { ⌜ Within suite (now nonce) (now header) m × (m + 19 ≤ length (now out)) ⌝ }
+    ensures { λ r. ⌜ (r ≡ length (calls (now (nonce .entry)) (now (header .entry)) (take m (now (out .entry))))) × (now (out .exit) ≡ tagApart m (sealed (suite .cipher) (suite .steps) key (now (nonce .entry)) (now (header .entry)) (take m (now (out .entry)))) ++ drop (m + 19) (now (out .entry))) ⌝ }
+{
+    let answer = sealing::seal::seal_in_place(suite, &key, nonce, header, m, out);
+    put_tag(&mut out[m..]);
+    calls_of(answer)
+}
+
+// A unit's text, sealed, as fields 11 and 12; the number of cipher calls.
+fn put_sealed(
+    suite: Suite,
+    key: [u8; 16],
+    nonce: &[u8],
+    header: &[u8],
+    source: &[u8],
+    target: &[u8],
+    out: &mut [u8],
+) -> u64
+    requires { ⌜ Within suite (now nonce) (now header) (2 + (length (now source) + length (now target))) × (24 + (length (now source) + length (now target)) ≤ length (now out)) ⌝ }
+    ensures { λ r. ⌜ (r ≡ length (calls (now (nonce .entry)) (now (header .entry)) (unitText (now (source .entry)) (now (target .entry))))) × (now (out .exit) ≡ sealedFields (length (unitText (now (source .entry)) (now (target .entry)))) (sealed (suite .cipher) (suite .steps) key (now (nonce .entry)) (now (header .entry)) (unitText (now (source .entry)) (now (target .entry)))) ++ drop (24 + (length (now (source .entry)) + length (now (target .entry)))) (now (out .entry))) ⌝ }
+{
+    let m = 2 + (source.len() + target.len());
+    put_text(source, target, &mut out[3..]);
+    let head = format::field::head(0x11, m);
+    sums::copy(&head, out);
+    seal_here(suite, key, nonce, header, m, &mut out[3..])
+}
+
+// Unit n; the number of cipher calls.
+pub fn put_unit(
+    suite: Suite,
+    key: [u8; 16],
+    number: u64,
+    n: u64,
+    from: [u8; 2],
+    to: [u8; 2],
+    source: &[u8],
+    target: &[u8],
+    out: &mut [u8],
+) -> u64
+    requires { ⌜ (listed (suite .cipher) (suite .steps) ≡ true) × (inRange (length (now source)) (length (now target)) ≡ true) × (unitLength writerKind (length (now source)) (length (now target)) ≤ length (now out)) ⌝ }
+    ensures { λ r. ⌜ (r ≡ length (sealingCalls (unitSealing writerKind suite number n (unitOf from to (now (source .entry)) (now (target .entry)))))) × (now (out .exit) ≡ unitBytes writerKind suite key number n (unitOf from to (now (source .entry)) (now (target .entry))) ++ drop (unitLength writerKind (length (now (source .entry))) (length (now (target .entry)))) (now (out .entry))) ⌝ }
+{
+    let nonce = format::layout::nonce(number, n);
+    let along = format::layout::unit_along(suite, number, n, from, to);
+    sums::copy(&along[16..], out);
+    put_sealed(suite, key, &nonce, &along, source, target, &mut out[9..])
+}
+
+// The close after n units; the number of cipher calls.
+pub fn put_close(suite: Suite, key: [u8; 16], number: u64, n: u64, out: &mut [u8]) -> u64
+    requires { ⌜ (listed (suite .cipher) (suite .steps) ≡ true) × (closeLength writerKind ≤ length (now out)) ⌝ }
+    ensures { λ r. ⌜ (r ≡ length (sealingCalls (closeSealing writerKind suite number n))) × (now (out .exit) ≡ closeBytes writerKind suite key number n ++ drop (closeLength writerKind) (now (out .entry))) ⌝ }
+{
+    let last = format::layout::nonce(number, n);
+    let along = format::layout::close_along(suite, number, n);
+    sums::copy(&along[16..], out);
+    seal_here(suite, key, &last, &along, 0, &mut out[5..])
+}

@@ -1,0 +1,71 @@
+-- The first window stays in `work`; the other blocks are only added.
+use mathlib.Core.Path.{_≡_, sym, ap, _∙_}
+use mathlib.Core.List.{_++_}
+use Prim.Native.Nat.{_+_, _-_, _*_, min}
+use native.Mathlib.Omega.{arith}
+use borrow.Author.Needs.{needs}
+use lib.ListN.{length, take, drop}
+use lib.Seq.{length-take-le}
+use Rattle.calls.specs.Pieces.{through, tagFrom}
+use Rattle.calls.specs.Tweak.{blocksOf}
+use Rattle.calls.proofs.ByBlocks.{openingTag-is}
+use Rattle.text_blocks.specs.Under.{enciphers, deciphers}
+use Rattle.text_blocks.proofs.Chunks.{enciphers-blockwise, deciphers-blockwise}
+use Rattle.sealing.specs.Passes.{textSum}
+use Rattle.passes.proofs.Windows.{part-of-rest, sum-none, sum-all}
+use Rattle.passes.proofs.tag_of.Statement.{statement}
+use Rattle.passes.proofs.tag_of.Tie as tie
+
+-- how long the first window is
+front : (c : tie.After-lesser) → length (take (c .lesser .result) (c .before .before .before .before .before .args .work .now)) ≡ c .lesser .result
+front c = length-take-le (c .lesser .result) (c .before .before .before .before .before .args .work .now) (omega arith)
+
+add-window-requires : tie.Need-add-window-requires
+add-window-requires c κs =
+    let h = c .before in
+    let p = h .before .before .before .before .before in
+    let a = p .args in
+    let n : length (take (h .lesser .result) (a .work .now)) ≡ min (length (a .c .now) - 16 * 0) (length (a .work .now)) = front h ∙ h .lesser .ensures ∙ omega arith in
+    (p .pre .1, rw n (part-of-rest (length (a .c .now)) 0 (length (a .work .now)) (omega arith) (p .pre .1 .small) (p .pre .2)), sum-none (a .suite) (a .key) (a .nonce .now) (a .c .now))
+
+add-rest-requires : tie.Need-add-rest-requires
+add-rest-requires c κs =
+    let w = c .before .before .before in
+    let h = w .before .before in
+    let p = h .before .before .before .before .before in
+    let a = p .args in
+    let k : 0 + blocksOf (length (take (h .lesser .result) (a .work .now))) ≡ c .blocks-of .result = omega (arith, front h) in
+    (p .pre .1, omega arith, w .add-window .ensures .0 ∙ ap (textSum (a .suite) (a .key) (a .nonce .now) (a .c .now)) k)
+
+returns : tie.Need-returns
+returns c =
+    let w = c .before .before .before .before .before .before in
+    let h = w .before .before in
+    let p = h .before .before .before .before .before in
+    let a = p .args in
+    let m = length (a .c .now) in
+    let e = enciphers (a .suite) (a .key) in
+    let d = deciphers (a .suite) (a .key) in
+    let short = p .pre .1 .usable .short in
+    let all = c .before .before .add-rest .ensures ∙ sum-all (a .suite) (a .key) (a .nonce .now) (a .c .now) short (p .pre .1 .small) in
+    let n = front h ∙ h .lesser .ensures in (
+      c .make .ensures
+          ∙ (λ i. tagFrom e (a .nonce .now) m (all i) (c .before .sum .ensures i))
+          ∙ sym (openingTag-is e d (enciphers-blockwise (a .suite) (a .key)) (a .nonce .now) short (a .header .now) (deciphers-blockwise (a .suite) (a .key)) (a .c .now)),
+      (λ i. (w .add-window .ensures .1 ∙ ap (λ k. through d e (a .nonce .now) m 0 (take k (a .c .now))) n) i ++ drop (h .lesser .ensures i) (a .work .now)),
+    )
+
+pub tag-of-spec : {M : Type 1} → statement M
+tag-of-spec =
+    tie.close
+    (tie.spec
+    (λ c κs. search needs)
+    (λ c. search needs)
+    (λ c. sym (front (c .before)))
+    add-window-requires
+    (λ c κs. search needs)
+    add-rest-requires
+    (λ c κs. search needs)
+    (λ c κs. search needs)
+    (λ c. search needs)
+    returns)

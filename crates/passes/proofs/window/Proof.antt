@@ -1,0 +1,49 @@
+-- The part is copied, and gone through.
+use mathlib.Core.Path.{_≡_, ap, _∙_}
+use Prim.Native.Nat.{_*_}
+use native.Mathlib.Omega.{arith}
+use borrow.Author.Needs.{needs}
+use lib.ListN.{length, take, drop, length-drop}
+use lib.Seq.{length-take-le}
+use Rattle.calls.specs.Pieces.{through}
+use Rattle.text_blocks.specs.Under.{enciphers, deciphers}
+use Rattle.passes.proofs.Windows.{copied-is}
+use Rattle.passes.proofs.window.Statement.{statement}
+use Rattle.passes.proofs.window.Tie as tie
+
+module _ (c : tie.After-copy) where
+  copied : c .copy .last .1 .0 ≡ take (length (c .before .before .before .before .before .before .args .work .now)) (drop (16 * c .before .before .before .before .before .before .args .first) (c .before .before .before .before .before .before .args .c .now))
+  copied =
+      let p = c .before .before .before .before .before .before in
+      c .copy .ensures ∙ copied-is (16 * p .args .first) (p .args .c .now) (p .args .work .now) (p .pre .1 .within)
+
+  long : length (c .copy .last .1 .0) ≡ length (c .before .before .before .before .before .before .args .work .now)
+  long =
+      let p = c .before .before .before .before .before .before in
+      ap length copied ∙ length-take-le (length (p .args .work .now)) (drop (16 * p .args .first) (p .args .c .now)) (rw length-drop (omega (arith, p .pre .1 .within)))
+
+through-requires : tie.Need-through-requires
+through-requires c κs =
+    let h = c .before .before .before in
+    let p = h .before .before .before .before .before .before in
+    (p .pre .0 .usable, rw (long h) (p .pre .1))
+
+returns : tie.Need-returns
+returns c =
+    let h = c .before .before .before .before .before .before in
+    let a = h .before .before .before .before .before .before .args in
+    c .before .before .through .ensures ∙ ap (through (deciphers (a .suite) (a .key)) (enciphers (a .suite) (a .key)) (a .nonce .now) (length (a .c .now)) (a .first)) (copied h)
+
+pub window-spec : {M : Type 1} → statement M
+window-spec =
+    tie.close
+    (tie.spec
+    (λ c. search needs)
+    (λ c. search needs)
+    (λ c. search needs)
+    (λ c. search needs)
+    (λ c. search needs)
+    (λ c κs. search needs)
+    through-requires
+    (λ c. search needs)
+    returns)

@@ -1,0 +1,3 @@
+// Sealing: SCREAM and iSCREAM, the tweakable authenticated encryption of the CAESAR submission, version 1.
+pub mod counts;
+pub mod seal;

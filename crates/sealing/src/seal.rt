@@ -1,0 +1,92 @@
+// Sealing.
+use cipher::refusal::Answer;
+use cipher::refusal::Refusal;
+use cipher::suite::Suite;
+use tweak::TextBlock;
+ghost use mathlib.Core.Path.{_≡_};
+ghost use mathlib.Core.List.{_++_};
+ghost use Prim.Native.Nat.{_+_, _^_, _≤_};
+ghost use lib.ListN.{length, take, drop};
+ghost use Rattle.sealing.specs.Passes.{Passable};
+ghost use Rattle.sealing.specs.Seal.{sealed, sealAnswer, sealBuffer, inPlaceAnswer, inPlaceBuffer};
+
+// The length of the sealed bytes and the number of cipher calls, or the refusal.
+pub enum SealAnswer {
+    Sealed(usize, usize),
+    Refused(Refusal),
+}
+
+// The sealed bytes of the first m bytes of the output, in their place.
+fn seal_there(suite: Suite, key: [u8; 16], nonce: &[u8], header: &[u8], m: usize, out: &mut [u8])
+    requires { ⌜ Passable suite (now nonce) (now header) × (m ≤ 2 ^ 24) × (m + 16 ≤ length (now out)) ⌝ }
+    ensures { λ r. ⌜ now (out .exit) ≡ sealed (suite .cipher) (suite .steps) key (now (nonce .entry)) (now (header .entry)) (take m (now (out .entry))) ++ drop (m + 16) (now (out .entry)) ⌝ }
+{
+    let checksum = sums::add_all([0u8; 16], &out[..m]);
+    text_blocks::through(true, suite, key, nonce, m, TextBlock(0), &mut out[..m]);
+    let sum = mode::header::sum(suite, key, nonce, header);
+    let tag = mode::tag::make(suite, key, nonce, m, checksum, sum);
+    blockwise::put_at(out, m, tag);
+}
+
+// The sealed bytes at the output's start.
+fn write_sealed(
+    suite: Suite,
+    key: [u8; 16],
+    nonce: &[u8],
+    header: &[u8],
+    text: &[u8],
+    out: &mut [u8],
+)
+    requires { ⌜ Passable suite (now nonce) (now header) × Passable suite (now nonce) (now text) × (length (now text) + 16 ≤ length (now out)) ⌝ }
+    ensures { λ r. ⌜ now (out .exit) ≡ sealed (suite .cipher) (suite .steps) key (now (nonce .entry)) (now (header .entry)) (now (text .entry)) ++ drop (length (now (text .entry)) + 16) (now (out .entry)) ⌝ }
+{
+    sums::copy(text, out);
+    seal_there(suite, key, nonce, header, text.len(), out);
+}
+
+// Ciphertext and tag of the text at the output's start; every other byte stays as it was. Refusals: 1, 2, 3, 4, 6, 7.
+pub fn seal(
+    suite: Suite,
+    key: &[u8],
+    nonce: &[u8],
+    header: &[u8],
+    text: &[u8],
+    out: &mut [u8],
+) -> SealAnswer
+    ensures { λ r. ⌜ (r ≡ sealAnswer (suite .cipher) (suite .steps) (now (key .entry)) (now (nonce .entry)) (now (header .entry)) (now (text .entry)) (now (out .entry))) × (now (out .exit) ≡ sealBuffer (suite .cipher) (suite .steps) (now (key .entry)) (now (nonce .entry)) (now (header .entry)) (now (text .entry)) (now (out .entry))) ⌝ }
+{
+    let a = header.len();
+    let m = text.len();
+    let tested = limits::seal_tests(suite, key.len(), nonce.len(), a, m, out.len());
+    match tested {
+        Answer::Refused(why) => SealAnswer::Refused(why),
+        Answer::Done => {
+            write_sealed(suite, blockwise::block_at(key, 0), nonce, header, text, out);
+            let count = crate::counts::blocks_of(a) + crate::counts::blocks_of(m) + 1;
+            SealAnswer::Sealed(m + 16, count)
+        }
+    }
+}
+
+// The same of a text that stands at the output's start already, its first m bytes.
+pub fn seal_in_place(
+    suite: Suite,
+    key: &[u8],
+    nonce: &[u8],
+    header: &[u8],
+    m: usize,
+    out: &mut [u8],
+) -> SealAnswer
+    ensures { λ r. ⌜ (r ≡ inPlaceAnswer (suite .cipher) (suite .steps) (now (key .entry)) (now (nonce .entry)) (now (header .entry)) m (now (out .entry))) × (now (out .exit) ≡ inPlaceBuffer (suite .cipher) (suite .steps) (now (key .entry)) (now (nonce .entry)) (now (header .entry)) m (now (out .entry))) ⌝ }
+{
+    let a = header.len();
+    let tested = limits::seal_tests(suite, key.len(), nonce.len(), a, m, out.len());
+    match tested {
+        Answer::Refused(why) => SealAnswer::Refused(why),
+        Answer::Done => {
+            seal_there(suite, blockwise::block_at(key, 0), nonce, header, m, out);
+            let calls = crate::counts::blocks_of(a) + crate::counts::blocks_of(m) + 1;
+            SealAnswer::Sealed(m + 16, calls)
+        }
+    }
+}

@@ -1,0 +1,6 @@
+pub mod Passed
+pub mod Order
+pub mod Put
+pub mod Few
+pub mod Handed
+pub mod Left

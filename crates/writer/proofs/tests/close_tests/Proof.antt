@@ -1,0 +1,71 @@
+-- The writer's tests, then the room.
+use mathlib.Core.Path.{_≡_, sym, ap, _∙_}
+use Prim.Native.Nat.{_+_}
+use native.Mathlib.Omega.{arith}
+use borrow.Author.Needs.{needs}
+use borrow.Author.Tests.{le-leb, lt-leb}
+use lib.Dec.{leb}
+use Rattle.cipher.specs.declared.refusal.Answer.{Answer}
+use Rattle.cipher.specs.declared.refusal.Answer.the-variants.{Done}
+use Rattle.cipher.specs.declared.refusal.Refusal.the-variants.{OutputTooShort}
+use Rattle.limits.specs.Tests.{unless}
+use Rattle.format.specs.Kind.{writerKind}
+use Rattle.format.specs.Layout.{closeLength}
+use Rattle.writer.specs.Writer.{byAnswer, writerTests, closeOutcome}
+use Rattle.writer.proofs.Order.{passes, refuses, writer-first}
+use Rattle.writer.proofs.Passed.{Valid, writer-passed}
+use Rattle.writer.proofs.tests.close_tests.Statement.{statement}
+use Rattle.writer.proofs.tests.close_tests.Tie as tie
+
+abbrev outcome : tie.Start → Answer
+outcome p = closeOutcome writerKind (p .args .w) (p .args .room)
+
+abbrev roomTest : tie.Start → Answer
+roomTest p = unless (leb (p .args .w .place + closeLength writerKind) (p .args .room)) OutputTooShort Done
+
+-- where the writer's tests are done
+module _ (c : tie.After-enum-told) where
+  done : let a = c .before .before .before .args in writerTests writerKind (a .w) (a .room) Done ≡ Done
+  done = sym (c .before .before .writer-tests .ensures) ∙ c .enum-told .given .1
+
+  valid : let a = c .before .before .before .args in Valid writerKind (a .w) (a .room)
+  valid = let a = c .before .before .before .args in writer-passed writerKind (a .w) (a .room) Done done .0
+
+  to-room : outcome (c .before .before .before) ≡ roomTest (c .before .before .before)
+  unfolding closeOutcome
+  to-room =
+      let p = c .before .before .before in
+      writer-first writerKind (p .args .w) (p .args .room) (roomTest p) ∙ ap (λ (a : Answer). byAnswer a (roomTest p) a) done
+
+sub-if1 : tie.Need-sub-if1
+sub-if1 c = valid c .within
+
+returns : tie.Need-returns
+returns c =
+    let a = c .before .before .before .before .args in
+    let v = valid (c .before) in
+    sym (to-room (c .before) ∙ refuses (leb (a .w .place + closeLength writerKind) (a .room)) OutputTooShort Done (lt-leb (a .w .place + closeLength writerKind) (a .room) (omega arith)))
+
+returns-2 : tie.Need-returns-2
+unfolding closeOutcome
+returns-2 c =
+    let p = c .before .before .before .before in
+    sym (writer-first writerKind (p .args .w) (p .args .room) (roomTest p) ∙ ap (λ (a : Answer). byAnswer a (roomTest p) a) (sym (c .before .before .before .writer-tests .ensures) ∙ c .before .tested .given .1))
+
+returns-3 : tie.Need-returns-3
+returns-3 c =
+    let a = c .before .before .before .before .args in
+    let v = valid (c .before) in
+    sym (to-room (c .before) ∙ passes (leb (a .w .place + closeLength writerKind) (a .room)) OutputTooShort Done (le-leb (a .w .place + closeLength writerKind) (a .room) (omega arith)))
+
+pub close-tests-spec : {M : Type 1} → statement M
+close-tests-spec =
+    tie.close
+    (tie.spec
+    (λ c κs. search needs)
+    (λ c. search needs)
+    (λ c. search needs)
+    sub-if1
+    returns
+    returns-2
+    returns-3)

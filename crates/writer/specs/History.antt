@@ -1,0 +1,92 @@
+-- Lists of calls on a book: "The writer takes an add or a close and is handed back as it now is." Each step is by the definitions in the
+-- contracts of `start`, `add` and `close`.
+use mathlib.Core.Path.{_≡_}
+use mathlib.Core.Bool.{Bool, true, false, _||_}
+use mathlib.Core.List.{List, [], _∷_, _++_}
+use Prim.Native.Nat.{ℕ, _^_, _<_}
+use lib.ListN.{length}
+use Rattle.bits.specs.Bytes.{Bytes}
+use Rattle.cipher.specs.declared.refusal.Answer.{Answer}
+use Rattle.cipher.specs.declared.refusal.Answer.the-variants.{Done}
+use Rattle.cipher.specs.declared.suite.Suite.{Suite}
+use Rattle.format.specs.Kind.{Kind}
+use Rattle.format.specs.Sealings.{Sealing, unitSealing, closeSealing}
+use Rattle.format.specs.Unit.{BookUnit, Given}
+use Rattle.writer.specs.declared.Writer.{Writer}
+use Rattle.writer.specs.Writer.{byAnswer, startOutcome, startWriter, startBuffer, addOutcome, addWriter, addBuffer, closeOutcome, closeWriter, closeBuffer}
+
+-- an add of a unit, or a close
+pub data Call : Type 0 where
+  add : BookUnit → Call
+  close : Call
+
+-- what can be handed to a call: any bytes, with codes of the kind's length
+pub data Callable (kind : Kind) : Call → Type 0 where
+  adds : {u : BookUnit} → Given kind u → Callable kind (add u)
+  closes : Callable kind close
+
+-- the writer last handed back, and the buffer as the last call left it
+pub record State : Type 0 where
+  pub writer : Writer
+  pub buffer : List ℕ
+
+-- how a call is answered
+abbrev pub outcome : Kind → Call → State → Answer
+outcome kind (add u) s = addOutcome kind (s .writer) u (length (s .buffer))
+outcome kind close s = closeOutcome kind (s .writer) (length (s .buffer))
+
+-- and what it leaves
+abbrev pub step : Kind → Call → State → State
+step kind (add u) s = record { writer = addWriter kind (s .writer) u (s .buffer); buffer = addBuffer kind (s .writer) u (s .buffer) }
+step kind close s = record { writer = closeWriter kind (s .writer) (s .buffer); buffer = closeBuffer kind (s .writer) (s .buffer) }
+
+-- what a list of calls leaves, refused ones included
+unfoldable pub run : Kind → List Call → State → State
+run kind [] s = s
+run kind (c ∷ cs) s = run kind cs (step kind c s)
+
+-- "The units of a list are, in order, the language pair, source and target of each accepted add; a close or a refused call brings none."
+abbrev pub unitsOf : Call → List BookUnit
+unitsOf (add u) = u ∷ []
+unitsOf close = []
+
+unfoldable pub units : Kind → List Call → State → List BookUnit
+units kind [] s = []
+units kind (c ∷ cs) s = byAnswer (outcome kind c s) (unitsOf c) [] ++ units kind cs (step kind c s)
+
+-- whether a close was accepted
+abbrev pub isClose : Call → Bool
+isClose (add u) = false
+isClose close = true
+
+unfoldable pub hasClose : Kind → List Call → State → Bool
+hasClose kind [] s = false
+hasClose kind (c ∷ cs) s = byAnswer (outcome kind c s) (isClose c) false || hasClose kind cs (step kind c s)
+
+-- "The cipher calls of an accepted add or close are the call list of its sealing. That sealing is demand 2's, under the start's suite and
+-- key with the nonce and header above": the sealings of the accepted calls
+abbrev pub sealingsOf : Kind → Call → Writer → List Sealing
+sealingsOf kind (add u) w = unitSealing kind (w .suite) (w .number) (w .count) u ∷ []
+sealingsOf kind close w = closeSealing kind (w .suite) (w .number) (w .count) ∷ []
+
+unfoldable pub sealings : Kind → List Call → State → List Sealing
+sealings kind [] s = []
+sealings kind (c ∷ cs) s = byAnswer (outcome kind c s) (sealingsOf kind c (s .writer)) [] ++ sealings kind cs (step kind c s)
+
+-- a start that is accepted: what it was given
+pub record Start : Type 0 where
+  pub suite : Suite
+  pub key : List ℕ
+  pub number : ℕ
+  pub buffer : List ℕ
+  pub keyBytes : Bytes key
+  pub numberFits : number < 2 ^ 64
+  pub accepted : startOutcome suite (length key) (length buffer) ≡ Done
+
+-- "The list begins with the writer and buffer that an accepted start leaves; its key is the one given to that start."
+abbrev pub started : Start → State
+started s =
+    record {
+      writer = startWriter (s .suite) (s .key) (s .number) (s .buffer);
+      buffer = startBuffer (s .suite) (s .key) (s .number) (s .buffer);
+    }

@@ -1,0 +1,101 @@
+// The refusals of start, add and close, in their order.
+use crate::Writer;
+use cipher::refusal::Answer;
+use cipher::refusal::Refusal;
+use cipher::suite::Suite;
+ghost use mathlib.Core.Bool.{cond};
+ghost use mathlib.Core.Path.{_≡_};
+ghost use Rattle.cipher.specs.declared.refusal.Answer.the-variants.{Done};
+ghost use Rattle.format.specs.Kind.{writerKind};
+ghost use Rattle.writer.specs.Writer.{valid, startOutcome, writerTests, addTests, closeOutcome};
+
+pub(crate) fn start_tests(suite: Suite, key: usize, room: usize) -> Answer
+    ensures { λ r. ⌜ r ≡ startOutcome suite key room ⌝ }
+{
+    if !suite.is_listed() {
+        return Answer::Refused(Refusal::SuiteNotListed);
+    }
+    if key != 16 {
+        return Answer::Refused(Refusal::KeyLength);
+    }
+    if room < 16 {
+        return Answer::Refused(Refusal::OutputTooShort);
+    }
+    Answer::Done
+}
+
+// Whether a writer's numbers go together, with a buffer of `room` bytes.
+fn is_valid(w: Writer, room: usize) -> bool
+    ensures { λ r. ⌜ r ≡ valid writerKind w room ⌝ }
+{
+    let suite = w.suite;
+    let place = w.place;
+    let count = w.count;
+    let total = w.total;
+    if 65535 < count {
+        return false;
+    }
+    suite.is_listed() & (16 <= place) & (place <= room) & (total <= 1024 * (count + 1))
+}
+
+// 9 and 10.
+fn writer_tests(w: Writer, room: usize) -> Answer
+    ensures { λ r. ⌜ r ≡ writerTests writerKind w room Done ⌝ }
+{
+    if !is_valid(w, room) {
+        return Answer::Refused(Refusal::WriterInvalid);
+    }
+    if w.closed {
+        return Answer::Refused(Refusal::WriterClosed);
+    }
+    Answer::Done
+}
+
+pub(crate) fn add_tests(
+    w: Writer,
+    from: [u8; 2],
+    to: [u8; 2],
+    s: usize,
+    t: usize,
+    room: usize,
+) -> Answer
+    ensures { λ r. ⌜ r ≡ addTests writerKind w from to s t room ⌝ }
+{
+    let place = w.place;
+    let count = w.count;
+    let tested = writer_tests(w, room);
+    match tested {
+        Answer::Refused(why) => Answer::Refused(why),
+        Answer::Done => {
+            if !format::unit::is_pair(from, to) {
+                return Answer::Refused(Refusal::LanguagesNotAllowed);
+            }
+            if !format::unit::in_range(s, t) {
+                return Answer::Refused(Refusal::SegmentLength);
+            }
+            if count == 65535 {
+                return Answer::Refused(Refusal::TooManyUnits);
+            }
+            if room - place < 33 + s + t {
+                return Answer::Refused(Refusal::OutputTooShort);
+            }
+            Answer::Done
+        }
+    }
+}
+
+pub(crate) fn close_tests(w: Writer, room: usize) -> Answer
+    ensures { λ r. ⌜ r ≡ closeOutcome writerKind w room ⌝ }
+{
+    let place = w.place;
+    let tested = writer_tests(w, room);
+    match tested {
+        Answer::Refused(why) => Answer::Refused(why),
+        Answer::Done => {
+            if room - place < 24 {
+                return Answer::Refused(Refusal::OutputTooShort);
+            }
+            Answer::Done
+        }
+    }
+}
