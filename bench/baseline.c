@@ -1,6 +1,6 @@
 /*
- * Scream and iScream (CAESAR version 1) in C, one block at a time, and sealing over them: the
- * yardstick of the benchmark.
+ * Scream and iScream (CAESAR version 1) in C, one block at a time, sealing over them, and the writer
+ * of sealed books: the yardstick of the benchmark.
  *
  * The S-boxes are bitsliced on the eight rows (Algorithms 3 and 4, and 5 with its round corrected).
  * The L-boxes go by two tables of 256 words each, one for each byte of a row. Four byte tables, as
@@ -424,9 +424,10 @@ INLINE void add_checksum(int cipher, int steps, const uint8_t *key, uint8_t twea
     add_block(tag, checksum);
 }
 
+/* Writes a ciphertext of `len` bytes and its tag. */
 INLINE void seal(int cipher, int steps, const uint8_t *key, const uint8_t *nonce, size_t n,
                  const uint8_t *header, size_t header_len, const uint8_t *text, size_t len,
-                 uint8_t *out)
+                 uint8_t *out, uint8_t *out_tag)
 {
     uint8_t tweak[16], checksum[16] = {0}, tag[16] = {0};
     size_t at = 0;
@@ -444,7 +445,7 @@ INLINE void seal(int cipher, int steps, const uint8_t *key, const uint8_t *nonce
         last_block(cipher, steps, key, tweak, n, text + at, out + at, len - at);
     }
     add_checksum(cipher, steps, key, tweak, n, checksum, len, tag);
-    memcpy(out + len, tag, 16);
+    memcpy(out_tag, tag, 16);
 }
 
 /* Writes the text of `len` bytes; returns whether the tag after the ciphertext is its tag. */
@@ -500,10 +501,11 @@ uint32_t baseline_seal(uint8_t cipher, uint8_t steps, const uint8_t *key, size_t
         return 6;
     if (out_len < text_len + 16)
         return 7;
+    uint8_t *tag = out + text_len;
     if (cipher == SCREAM)
-        seal(SCREAM, steps, key, nonce, n, header, header_len, text, text_len, out);
+        seal(SCREAM, steps, key, nonce, n, header, header_len, text, text_len, out, tag);
     else
-        seal(ISCREAM, steps, key, nonce, n, header, header_len, text, text_len, out);
+        seal(ISCREAM, steps, key, nonce, n, header, header_len, text, text_len, out, tag);
     return 0;
 }
 
@@ -533,4 +535,148 @@ uint32_t baseline_open(uint8_t cipher, uint8_t steps, const uint8_t *key, size_t
         memcpy(out, text, len);
     free(text);
     return same ? 0 : 8;
+}
+
+/* ---- Books ---- */
+
+enum { MOST_UNITS = 65535, LONGEST_SEGMENT = 4096 };
+
+/* `open` is 0 for a closed writer. */
+typedef struct {
+    uint64_t number, place, units, calls;
+    uint8_t key[16];
+    uint8_t cipher, steps, open;
+} baseline_writer;
+
+INLINE uint8_t *put(uint8_t *to, const uint8_t *from, size_t len)
+{
+    if (len > 0)
+        memcpy(to, from, len);
+    return to + len;
+}
+
+/* A number of so many bytes, highest first. */
+INLINE uint8_t *put_number(uint8_t *to, uint64_t number, size_t bytes)
+{
+    for (size_t i = bytes; i > 0; i--) {
+        to[i - 1] = (uint8_t)number;
+        number >>= 8;
+    }
+    return to + bytes;
+}
+
+/* Tag and length of a field. */
+INLINE uint8_t *put_head(uint8_t *to, uint8_t tag, size_t len)
+{
+    *to = tag;
+    return put_number(to + 1, len, 2);
+}
+
+/* Fields 01 and 02. */
+static uint8_t *put_opening(uint8_t *to, const baseline_writer *w)
+{
+    to = put_number(put_head(to, 0x01, 8), w->number, 8);
+    to = put_head(to, 0x02, 2);
+    *to++ = w->cipher;
+    *to++ = w->steps;
+    return to;
+}
+
+/* Seals a text along with fields 01 and 02 and a field of `head_len` bytes, and counts the calls. */
+static void seal_part(baseline_writer *w, const uint8_t *head, size_t head_len, const uint8_t *text,
+                      size_t len, uint8_t *out, uint8_t *tag)
+{
+    uint8_t nonce[12], header[25];
+    size_t header_len = 16 + head_len;
+    put_number(put_number(nonce, w->number, 8), w->units, 4);
+    put(put_opening(header, w), head, head_len);
+    if (w->cipher == SCREAM)
+        seal(SCREAM, w->steps, w->key, nonce, 12, header, header_len, text, len, out, tag);
+    else
+        seal(ISCREAM, w->steps, w->key, nonce, 12, header, header_len, text, len, out, tag);
+    w->calls += (header_len + 15) / 16 + (len + 15) / 16 + 1;
+}
+
+/* Refusals 9 and 10. */
+static uint32_t writer_refused(const baseline_writer *w, size_t len)
+{
+    if (!listed(w->cipher, w->steps) || w->place < 16 || w->place > len || w->units > MOST_UNITS ||
+        w->calls > 1024 * (w->units + 1))
+        return 9;
+    return w->open ? 0 : 10;
+}
+
+static int letters(const uint8_t code[2])
+{
+    return code[0] >= 'a' && code[0] <= 'z' && code[1] >= 'a' && code[1] <= 'z';
+}
+
+/* Starts a book in a buffer of `len` bytes. Returns 0, or the refusal's number. */
+uint32_t baseline_start(uint8_t cipher, uint8_t steps, const uint8_t *key, size_t key_len,
+                        uint64_t number, uint8_t *buffer, size_t len, baseline_writer *w)
+{
+    memset(w, 0, sizeof *w);
+    if (!listed(cipher, steps))
+        return 1;
+    if (key_len != 16)
+        return 2;
+    if (len < 16)
+        return 7;
+    w->cipher = cipher;
+    w->steps = steps;
+    w->open = 1;
+    w->number = number;
+    w->place = 16;
+    memcpy(w->key, key, 16);
+    put_opening(buffer, w);
+    return 0;
+}
+
+/* Adds a unit at the place. Returns 0, or the refusal's number. */
+uint32_t baseline_add(baseline_writer *w, uint8_t *buffer, size_t len, const uint8_t from[2],
+                      const uint8_t to[2], const uint8_t *source, size_t s, const uint8_t *target,
+                      size_t t)
+{
+    uint32_t number = writer_refused(w, len);
+    if (number != 0)
+        return number;
+    if (!letters(from) || !letters(to) || memcmp(from, to, 2) == 0)
+        return 11;
+    if (s == 0 || s > LONGEST_SEGMENT || t > LONGEST_SEGMENT)
+        return 12;
+    if (w->units == MOST_UNITS)
+        return 13;
+    if (len - w->place < 33 + s + t)
+        return 7;
+
+    uint8_t text[2 + 2 * LONGEST_SEGMENT];
+    size_t m = 2 + s + t;
+    put(put(put_number(text, s, 2), source, s), target, t);
+
+    uint8_t *head = buffer + w->place;
+    uint8_t *at = put_number(put_head(head, 0x10, 6), w->units, 2);
+    at = put(put(at, from, 2), to, 2);
+    uint8_t *ciphertext = put_head(at, 0x11, m);
+    uint8_t *tag = put_head(ciphertext + m, 0x12, 16);
+    seal_part(w, head, 9, text, m, ciphertext, tag);
+    w->place += 33 + s + t;
+    w->units++;
+    return 0;
+}
+
+/* Closes the book at the place. Returns 0, or the refusal's number. */
+uint32_t baseline_close(baseline_writer *w, uint8_t *buffer, size_t len)
+{
+    uint32_t number = writer_refused(w, len);
+    if (number != 0)
+        return number;
+    if (len - w->place < 24)
+        return 7;
+    uint8_t *head = buffer + w->place;
+    uint8_t *at = put_number(put_head(head, 0x20, 2), w->units, 2);
+    uint8_t *tag = put_head(at, 0x12, 16);
+    seal_part(w, head, 5, NULL, 0, NULL, tag);
+    w->place += 24;
+    w->open = 0;
+    return 0;
 }

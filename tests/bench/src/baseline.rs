@@ -1,5 +1,5 @@
 //! A safe wrapper over bench/baseline.c. The functions on blocks say whether the suite is listed;
-//! sealing and opening return a refusal's number.
+//! sealing, opening and the writer return a refusal's number.
 
 extern "C" {
     fn baseline_encipher(
@@ -65,6 +65,45 @@ extern "C" {
         out: *mut u8,
         out_len: usize,
     ) -> u32;
+
+    fn baseline_start(
+        cipher: u8,
+        steps: u8,
+        key: *const u8,
+        key_len: usize,
+        number: u64,
+        buffer: *mut u8,
+        len: usize,
+        writer: *mut Writer,
+    ) -> u32;
+
+    fn baseline_add(
+        writer: *mut Writer,
+        buffer: *mut u8,
+        len: usize,
+        from: *const u8,
+        to: *const u8,
+        source: *const u8,
+        source_len: usize,
+        target: *const u8,
+        target_len: usize,
+    ) -> u32;
+
+    fn baseline_close(writer: *mut Writer, buffer: *mut u8, len: usize) -> u32;
+}
+
+/// The baseline's writer; `open` is 0 where it is closed.
+#[repr(C)]
+#[derive(Clone, Copy, Debug, PartialEq, Eq)]
+pub struct Writer {
+    pub number: u64,
+    pub place: u64,
+    pub units: u64,
+    pub calls: u64,
+    pub key: [u8; 16],
+    pub cipher: u8,
+    pub steps: u8,
+    pub open: u8,
 }
 
 /// Enciphers the block in place under key and tweak.
@@ -219,6 +258,79 @@ pub fn open(
         )
     };
     answer(number)
+}
+
+/// Starts a book at the start of the buffer; a refused one hands back a closed writer of zeros.
+#[inline]
+pub fn start(
+    cipher: u8,
+    steps: u8,
+    key: &[u8],
+    number: u64,
+    buffer: &mut [u8],
+) -> (Writer, Result<(), u32>) {
+    let mut writer = Writer {
+        number: 0,
+        place: 0,
+        units: 0,
+        calls: 0,
+        key: [0; 16],
+        cipher: 0,
+        steps: 0,
+        open: 0,
+    };
+    // SAFETY: each slice is given with its length, and only the buffer and the writer are written.
+    let number = unsafe {
+        baseline_start(
+            cipher,
+            steps,
+            key.as_ptr(),
+            key.len(),
+            number,
+            buffer.as_mut_ptr(),
+            buffer.len(),
+            &mut writer,
+        )
+    };
+    (writer, answer(number))
+}
+
+impl Writer {
+    /// Adds a unit at the place.
+    #[inline]
+    pub fn add(
+        &mut self,
+        buffer: &mut [u8],
+        from: &[u8; 2],
+        to: &[u8; 2],
+        source: &[u8],
+        target: &[u8],
+    ) -> Result<(), u32> {
+        // SAFETY: the codes have two bytes each, each slice is given with its length, and only the
+        // writer and the buffer are written.
+        let number = unsafe {
+            baseline_add(
+                self,
+                buffer.as_mut_ptr(),
+                buffer.len(),
+                from.as_ptr(),
+                to.as_ptr(),
+                source.as_ptr(),
+                source.len(),
+                target.as_ptr(),
+                target.len(),
+            )
+        };
+        answer(number)
+    }
+
+    /// Closes the book at the place.
+    #[inline]
+    pub fn close(&mut self, buffer: &mut [u8]) -> Result<(), u32> {
+        // SAFETY: the buffer is given with its length, and only it and the writer are written.
+        let number = unsafe { baseline_close(self, buffer.as_mut_ptr(), buffer.len()) };
+        answer(number)
+    }
 }
 
 /// 0, or a refusal's number.

@@ -9,7 +9,41 @@ const ROUNDS: usize = 200;
 const FEWEST_ROUNDS: usize = 5;
 const TIME: Duration = Duration::from_secs(10);
 
-/// Nanoseconds and, where they are counted, cycles a byte: the least of the measurements so far.
+/// What the costs of a table are of.
+#[derive(Clone, Copy)]
+pub enum Per {
+    Byte,
+    Call,
+}
+
+impl Per {
+    /// How many bytes these runs work on, or how many calls they make.
+    pub fn many(self, runs: usize, bytes: usize) -> usize {
+        match self {
+            Per::Byte => runs * bytes,
+            Per::Call => runs,
+        }
+    }
+
+    /// The heads of two cells.
+    pub fn heads(self) -> String {
+        match self {
+            Per::Byte => self.cells("ns/B", "c/B"),
+            Per::Call => self.cells("ns", "c"),
+        }
+    }
+
+    /// Two cells; those of a call have greater numbers.
+    fn cells(self, nanoseconds: &str, cycles: &str) -> String {
+        match self {
+            Per::Byte => format!("  {nanoseconds:>8}{cycles:>7}"),
+            Per::Call => format!("  {nanoseconds:>8}{cycles:>9}"),
+        }
+    }
+}
+
+/// Nanoseconds and, where they are counted, cycles, a byte or a call: the least of the measurements
+/// so far.
 #[derive(Clone, Copy)]
 pub struct Cost {
     pub nanoseconds: f64,
@@ -22,18 +56,18 @@ impl Cost {
         cycles: None,
     };
 
-    /// Runs what works on so many bytes, and adds what it cost.
-    pub fn measure(&mut self, counter: &mut Option<Cycles>, bytes: usize, run: impl FnOnce()) {
+    /// Runs what works on so many bytes, or makes so many calls, and adds what it cost for one.
+    pub fn measure(&mut self, counter: &mut Option<Cycles>, many: usize, run: impl FnOnce()) {
         let first = counter.as_mut().and_then(Cycles::now);
         let start = Instant::now();
         run();
         let time = start.elapsed();
         let last = counter.as_mut().and_then(Cycles::now);
-        let bytes = bytes as f64;
+        let many = many as f64;
         let cycles = first
             .zip(last)
-            .map(|(first, last)| (last - first) as f64 / bytes);
-        self.add(time.as_nanos() as f64 / bytes, cycles);
+            .map(|(first, last)| (last - first) as f64 / many);
+        self.add(time.as_nanos() as f64 / many, cycles);
     }
 
     fn add(&mut self, nanoseconds: f64, cycles: Option<f64>) {
@@ -44,12 +78,14 @@ impl Cost {
     }
 
     /// Two cells of a table's line.
-    pub fn print(&self) {
-        let cycles = match self.cycles {
-            Some(cycles) => format!("{cycles:.2}"),
-            None => "-".to_string(),
+    pub fn cells(&self, per: Per) -> String {
+        let digits = match per {
+            Per::Byte => 2,
+            Per::Call => 0,
         };
-        print!("  {:>8.2}{cycles:>7}", self.nanoseconds);
+        let cell = |number: f64| format!("{number:.digits$}");
+        let cycles = self.cycles.map_or("-".to_string(), cell);
+        per.cells(&cell(self.nanoseconds), &cycles)
     }
 }
 

@@ -2,6 +2,7 @@
 
 mod ciphers;
 mod sealing;
+mod writing;
 
 use bench::counter::Cycles;
 
@@ -10,4 +11,6 @@ fn main() {
     ciphers::table(&mut counter);
     println!();
     sealing::table(&mut counter);
+    println!();
+    writing::table(&mut counter);
 }

@@ -111,13 +111,6 @@ fn open_vectors_hold() {
     }
 }
 
-/// So many random bytes.
-fn some_bytes(random: &mut Random, len: usize) -> Vec<u8> {
-    let mut bytes = vec![0; len];
-    random.fill(&mut bytes);
-    bytes
-}
-
 /// Random suites, lengths and outputs, some of them refused.
 #[test]
 fn sealing_is_that_of_the_reference() {
@@ -131,12 +124,12 @@ fn sealing_is_that_of_the_reference() {
         } else {
             SUITES[random.below(8)]
         };
-        let key = some_bytes(&mut random, if case % 19 == 0 { 15 } else { 16 });
-        let nonce = some_bytes(&mut random, if case % 2 == 0 { 15 } else { case % 17 });
-        let header = some_bytes(&mut random, if case % 23 == 0 { 1_025 } else { case % 50 });
-        let text = some_bytes(&mut random, if case % 13 == 0 { 2_049 } else { case % 67 });
+        let key = random.some_bytes(if case % 19 == 0 { 15 } else { 16 });
+        let nonce = random.some_bytes(if case % 2 == 0 { 15 } else { case % 17 });
+        let header = random.some_bytes(if case % 23 == 0 { 1_025 } else { case % 50 });
+        let text = random.some_bytes(if case % 13 == 0 { 2_049 } else { case % 67 });
 
-        let before = some_bytes(&mut random, text.len() + 15 + case % 5);
+        let before = random.some_bytes(text.len() + 15 + case % 5);
         let mut out = before.clone();
         let expected = sealing::seal(cipher, steps, &key, &nonce, &header, &text, out.len());
         let answer = baseline::seal(cipher, steps, &key, &nonce, &header, &text, &mut out);
@@ -153,13 +146,13 @@ fn sealing_is_that_of_the_reference() {
             } else {
                 case % 16
             };
-            sealed = some_bytes(&mut random, len);
+            sealed = random.some_bytes(len);
         } else if random.below(2) == 0 {
             let at = random.below(sealed.len());
             sealed[at] ^= 1 << random.below(8);
         }
         let len = (sealed.len() + 4).saturating_sub(random.below(24));
-        let before = some_bytes(&mut random, len);
+        let before = random.some_bytes(len);
         let mut out = before.clone();
         let expected = sealing::open(cipher, steps, &key, &nonce, &header, &sealed, out.len());
         let answer = baseline::open(cipher, steps, &key, &nonce, &header, &sealed, &mut out);

@@ -1,9 +1,10 @@
-//! A second implementation of the tweakable block ciphers Scream and iScream (CAESAR version 1), and of the
-//! sealing mode over them.
+//! A second implementation of the tweakable block ciphers Scream and iScream (CAESAR version 1), of the
+//! sealing mode over them, and of the writer of sealed books.
 //!
 //! It is written from the paper's tables, on columns and rows as the paper draws them, and is
 //! never fast: it is there to be read, and to hold other implementations against.
 
+pub mod book;
 pub mod boxes;
 pub mod cipher;
 pub mod random;
@@ -12,6 +13,7 @@ pub mod state;
 pub mod tables;
 pub mod tweakey;
 pub mod vectors;
+pub mod writer;
 
 #[cfg(test)]
 mod printed;

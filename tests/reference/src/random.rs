@@ -32,6 +32,18 @@ impl Random {
         bytes
     }
 
+    /// So many bytes.
+    pub fn some_bytes(&mut self, len: usize) -> Vec<u8> {
+        let mut bytes = vec![0; len];
+        self.fill(&mut bytes);
+        bytes
+    }
+
+    /// One of the values, of which there is one at least.
+    pub fn one_of<T: Copy>(&mut self, values: &[T]) -> T {
+        values[self.below(values.len())]
+    }
+
     /// Fills the slice with bytes.
     pub fn fill(&mut self, bytes: &mut [u8]) {
         for byte in bytes {

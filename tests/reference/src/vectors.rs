@@ -117,6 +117,36 @@ pub fn open_vectors() -> Vec<OpenVector> {
     vectors
 }
 
+/// A line of book.txt.
+pub struct BookVector {
+    /// The line's number in the file, from 1.
+    pub line: usize,
+    pub key: Vec<u8>,
+    pub book: Vec<u8>,
+    /// Unit count and call total, or the refusal's number.
+    pub answer: Result<(usize, usize), u32>,
+}
+
+/// Every line of book.txt but the comments: key and book in hex, then `ok:`, unit count, `:` and call
+/// total, or `refused:` and a number.
+pub fn book_vectors() -> Vec<BookVector> {
+    let mut vectors = Vec::new();
+    for (line, fields) in cases("book.txt", include_str!("../../vectors/book.txt"), 3) {
+        let number = |text: &str| text.parse().expect(fields[2]);
+        vectors.push(BookVector {
+            line,
+            key: bytes(fields[0]),
+            book: bytes(fields[1]),
+            answer: match fields[2].split(':').collect::<Vec<_>>()[..] {
+                ["ok", units, calls] => Ok((number(units), number(calls))),
+                ["refused", number] => Err(number.parse().expect(fields[2])),
+                _ => panic!("{}", fields[2]),
+            },
+        });
+    }
+    vectors
+}
+
 /// The bytes of a text of two hex digits each; `-` has none.
 fn bytes(text: &str) -> Vec<u8> {
     if text == "-" {

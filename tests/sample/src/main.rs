@@ -1,7 +1,8 @@
 //! Enciphers one block with the proved library and deciphers it again; seals a sentence, opens it
-//! again, and has it refused with one byte changed. Prints what it did.
+//! again, and has it refused with one byte changed; writes a book of three sentences. Prints what it
+//! did.
 
-use sealed_book::{decipher, encipher, open, seal, Refusal};
+use sealed_book::{decipher, encipher, open, seal, Refusal, Writer};
 
 /// Scream with 10 steps.
 const CIPHER: u8 = 1;
@@ -12,7 +13,9 @@ fn main() -> Result<(), Refusal> {
     print("key", &key, "16 secret bytes");
     one_block(&key)?;
     println!();
-    one_sentence(&key)
+    one_sentence(&key)?;
+    println!();
+    one_book(&key)
 }
 
 fn one_block(key: &[u8; 16]) -> Result<(), Refusal> {
@@ -70,6 +73,58 @@ fn one_sentence(key: &[u8]) -> Result<(), Refusal> {
         ),
     }
     Ok(())
+}
+
+fn one_book(key: &[u8]) -> Result<(), Refusal> {
+    let mut buffer = [0; 300];
+    let (mut writer, mut answer) = Writer::start(CIPHER, STEPS, key, 7, &mut buffer);
+    answer?;
+    let about = "book 7, Scream with 10 steps: public";
+    print("started", &buffer[..writer.place as usize], about);
+
+    let (en, de, fr) = (b"en", b"de", b"fr");
+    for (to, source, target) in [
+        (de, "Hold the button down.", "Halten Sie die Taste."),
+        (fr, "Hold the button down.", "Maintenez le bouton."),
+        (de, "Close the valve.", ""),
+    ] {
+        let before = writer.place as usize;
+        (writer, answer) = writer.add(&mut buffer, en, to, source.as_bytes(), target.as_bytes());
+        answer?;
+        print(
+            "added",
+            &buffer[before..before + 9],
+            "number and languages: public",
+        );
+        println!("            {source:?} {target:?}  secret");
+        state(&writer);
+    }
+
+    let before = writer.place as usize;
+    (writer, answer) = writer.close(&mut buffer);
+    answer?;
+    let close = &buffer[before..writer.place as usize];
+    print("closed", close, "the number of units, and the tag");
+    state(&writer);
+
+    let (_, answer) = writer.add(&mut buffer, en, de, b"One more.", b"");
+    if let Err(refusal) = answer {
+        let number = refusal.number();
+        println!("one more    refused {number}: {refusal}");
+    }
+    assert_eq!(answer, Err(Refusal::WriterClosed));
+    Ok(())
+}
+
+/// Where the writer stands.
+fn state(writer: &Writer) {
+    let Writer {
+        place,
+        units,
+        calls,
+        ..
+    } = writer;
+    println!("            place {place}, units {units}, calls of the cipher {calls}");
 }
 
 /// A line: what it is, its bytes in hex, and a word about it.

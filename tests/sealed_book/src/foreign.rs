@@ -1,4 +1,5 @@
-//! The functions of the static library, as C sees them. Each returns 0 or a refusal's number.
+//! The functions of the static library, as C sees them. Each returns 0 or a refusal's number, but for
+//! the last three, which return a number of the writer.
 
 extern "C" {
     pub fn sb_encipher(
@@ -69,4 +70,35 @@ extern "C" {
         out_len: usize,
         len: *mut u64,
     ) -> u32;
+
+    pub fn sb_start(
+        cipher: u8,
+        steps: u8,
+        key: *const u8,
+        key_len: usize,
+        number: u64,
+        buf: *mut u8,
+        buf_len: usize,
+        writer: *mut u8,
+    ) -> u32;
+
+    pub fn sb_add(
+        writer: *mut u8,
+        buf: *mut u8,
+        buf_len: usize,
+        from: *const u8,
+        to: *const u8,
+        source: *const u8,
+        source_len: usize,
+        target: *const u8,
+        target_len: usize,
+    ) -> u32;
+
+    pub fn sb_close(writer: *mut u8, buf: *mut u8, buf_len: usize) -> u32;
+
+    pub fn sb_place(writer: *const u8) -> u64;
+
+    pub fn sb_units(writer: *const u8) -> u64;
+
+    pub fn sb_calls(writer: *const u8) -> u64;
 }

@@ -1,14 +1,17 @@
-//! A safe wrapper over the proved library: the tweakable block ciphers Scream and iScream, and
-//! sealing and opening under them.
+//! A safe wrapper over the proved library: the tweakable block ciphers Scream and iScream, sealing
+//! and opening under them, and the writer of sealed books.
 //!
 //! A suite is a cipher (1 Scream, 2 iScream) and a number of steps: 6, 8, 10 or 12 for Scream,
 //! 8, 10, 12 or 14 for iScream. Any other is refused. After a refusal what was lent to be written
 //! is as it was.
 
 pub mod foreign;
+pub mod raw;
 mod refusal;
+mod writer;
 
 pub use refusal::Refusal;
+pub use writer::Writer;
 
 /// Enciphers the block in place under key and tweak.
 #[inline]

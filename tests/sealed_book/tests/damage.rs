@@ -2,7 +2,7 @@
 
 mod common;
 
-use common::sealing::{some_bytes, Given};
+use common::sealing::Given;
 use reference::cipher::SUITES;
 use reference::random::Random;
 
@@ -117,7 +117,7 @@ fn bytes_put_in() {
             let n = 1 + random.below(14);
             let given = sealed(&mut random, suite, n, a, m);
             for more in [1, 2, 15, 16, 17, 32] {
-                for bytes in [vec![0; more], some_bytes(&mut random, more)] {
+                for bytes in [vec![0; more], random.some_bytes(more)] {
                     let (ciphertext, tag) = given.body.split_at(m);
                     for (name, body) in [
                         ("before the ciphertext", [&bytes, ciphertext, tag].concat()),

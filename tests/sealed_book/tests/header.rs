@@ -4,8 +4,36 @@ use std::env;
 use std::path::PathBuf;
 use std::process::Command;
 
+use reference::writer::{start, Answer, Writer};
+
 fn hex(bytes: &[u8]) -> String {
     bytes.iter().map(|byte| format!("{byte:02X}")).collect()
+}
+
+/// What the client says about its book, from the reference.
+fn about_the_book() -> Vec<String> {
+    let mut book = [0xFF; 88];
+    let passed = |(writer, answer): (Writer, Answer)| {
+        assert_eq!(answer, Ok(()));
+        writer
+    };
+    let started = passed(start(1, 10, &[0; 16], 7, &mut book));
+    let added = passed(started.add(&mut book, *b"en", *b"de", b"valve", b"Ventil"));
+    let closed = passed(added.close(&mut book));
+    let [started, added, closed] = [started, added, closed].map(|writer| hex(&writer.encoded()));
+    let zeros = hex(&[0; 64]);
+    vec![
+        format!("start 0 {started}"),
+        format!("add 0 {added}"),
+        format!("languages 11 {added}"),
+        format!("segment 12 {added}"),
+        format!("short 7 {added}"),
+        format!("close 0 {closed}"),
+        format!("closed 10 {}", hex(&book)),
+        "place 84 units 1 calls 7".to_string(),
+        format!("none 2 {zeros}"),
+        format!("zeros 9 {zeros}"),
+    ]
 }
 
 #[test]
@@ -69,5 +97,6 @@ fn client_in_c() {
         "none 2 ".to_string(),
     ];
     let text = String::from_utf8(output.stdout).expect("text");
+    let expected = [&expected[..], &about_the_book()].concat();
     assert_eq!(text.lines().collect::<Vec<_>>(), expected);
 }

@@ -61,5 +61,23 @@ int main(void) {
     printf("len %u\n", (unsigned)len);
     returned = sb_seal(SB_ISCREAM, 12, NULL, 0, NULL, 0, NULL, 0, NULL, 0, NULL, 0, &len, &calls);
     print("none", returned, NULL, 0);
+
+    /* a book of one unit, in a buffer with 4 bytes to spare */
+    const uint8_t en[2] = {'e', 'n'}, de[2] = {'d', 'e'};
+    const uint8_t valve[5] = {'v', 'a', 'l', 'v', 'e'}, ventil[6] = {'V', 'e', 'n', 't', 'i', 'l'};
+    uint8_t book[88], writer[SB_WRITER_LEN];
+    memset(book, 0xFF, sizeof book);
+    memset(writer, 0xFF, sizeof writer);
+    print("start", sb_start(SB_SCREAM, 10, key, sizeof key, 7, book, sizeof book, writer), writer, sizeof writer);
+    returned = sb_add(writer, book, sizeof book, en, de, valve, sizeof valve, ventil, sizeof ventil);
+    print("add", returned, writer, sizeof writer);
+    print("languages", sb_add(writer, book, sizeof book, en, en, valve, sizeof valve, NULL, 0), writer, sizeof writer);
+    print("segment", sb_add(writer, book, sizeof book, en, de, NULL, 0, NULL, 0), writer, sizeof writer);
+    print("short", sb_close(writer, book, 83), writer, sizeof writer);
+    print("close", sb_close(writer, book, sizeof book), writer, sizeof writer);
+    print("closed", sb_close(writer, book, sizeof book), book, sizeof book);
+    printf("place %u units %u calls %u\n", (unsigned)sb_place(writer), (unsigned)sb_units(writer), (unsigned)sb_calls(writer));
+    print("none", sb_start(SB_SCREAM, 10, NULL, 0, 7, NULL, 0, writer), writer, sizeof writer);
+    print("zeros", sb_close(writer, NULL, 0), writer, sizeof writer);
     return 0;
 }

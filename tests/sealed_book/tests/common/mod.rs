@@ -1,9 +1,12 @@
-//! Both directions of a cipher, in the library and in the reference.
+//! Both directions of a cipher, in the library and in the reference; sealing; writing a book; and
+//! causes of refusal.
 
 // Each test file uses a part of this.
 #![allow(dead_code)]
 
+pub mod causes;
 pub mod sealing;
+pub mod writing;
 
 use sealed_book::Refusal;
 

@@ -30,13 +30,6 @@ pub struct Given {
     pub body: Vec<u8>,
 }
 
-/// So many random bytes.
-pub fn some_bytes(random: &mut Random, len: usize) -> Vec<u8> {
-    let mut bytes = vec![0; len];
-    random.fill(&mut bytes);
-    bytes
-}
-
 impl Given {
     /// Random bytes of these lengths, and a key of 16.
     pub fn random(
@@ -48,10 +41,10 @@ impl Given {
     ) -> Given {
         Given {
             suite,
-            key: some_bytes(random, 16),
-            nonce: some_bytes(random, nonce_len),
-            header: some_bytes(random, header_len),
-            body: some_bytes(random, body_len),
+            key: random.some_bytes(16),
+            nonce: random.some_bytes(nonce_len),
+            header: random.some_bytes(header_len),
+            body: random.some_bytes(body_len),
         }
     }
 

@@ -1,0 +1,151 @@
+//! The baseline's writer in C against the reference, so that what is measured is the writing of books.
+
+use bench::baseline;
+use reference::book::Book;
+use reference::cipher::SUITES;
+use reference::random::Random;
+use reference::vectors::book_vectors;
+use reference::writer::{start, Writer};
+
+const SEED: u64 = 0x424F_4F4B;
+
+/// The reference's writer as the baseline's.
+fn in_c(writer: &Writer) -> baseline::Writer {
+    baseline::Writer {
+        number: writer.number,
+        place: writer.place,
+        units: writer.units,
+        calls: writer.calls,
+        key: writer.key,
+        cipher: writer.cipher,
+        steps: writer.steps,
+        open: u8::from(!writer.closed),
+    }
+}
+
+/// The accepted books of book.txt, taken apart by the reference and written again.
+#[test]
+fn book_vectors_are_written_again() {
+    let mut books = 0;
+    for v in book_vectors() {
+        let Ok((units, calls)) = v.answer else {
+            continue;
+        };
+        let key = v.key[..].try_into().expect("an accepted key");
+        let book = Book::taken_apart(&key, &v.book);
+        let mut buffer = vec![0; v.book.len()];
+        let (mut writer, answer) =
+            baseline::start(book.cipher, book.steps, &key, book.number, &mut buffer);
+        assert_eq!(answer, Ok(()), "line {}", v.line);
+        for unit in &book.units {
+            let (source, target) = (&unit.source, &unit.target);
+            let answer = writer.add(&mut buffer, &unit.from, &unit.to, source, target);
+            assert_eq!(answer, Ok(()), "line {}", v.line);
+        }
+        assert_eq!(writer.close(&mut buffer), Ok(()), "line {}", v.line);
+        assert_eq!(buffer, v.book, "line {}", v.line);
+        assert_eq!(writer.units, units as u64, "line {}", v.line);
+        assert_eq!(writer.calls, calls as u64, "line {}", v.line);
+        books += 1;
+    }
+    assert_eq!(books, 8);
+}
+
+/// Starts, some of them refused.
+#[test]
+fn starts_are_those_of_the_reference() {
+    let mut random = Random::new(SEED);
+    let mut answers = [0; 14];
+    for case in 0..2_000 {
+        let name = format!("seed {SEED:X}, case {case}");
+        let (cipher, steps) = match random.below(4) {
+            0 => random.one_of(&[(0, 6), (1, 14), (2, 6), (3, 8)]),
+            _ => random.one_of(&SUITES),
+        };
+        let key_len = random.one_of(&[0, 15, 16, 16, 16, 16, 17]);
+        let key = random.some_bytes(key_len);
+        let number = random.number();
+        let len = 10 + random.below(20);
+        let mut buffer = random.some_bytes(len);
+        let mut expected = buffer.clone();
+        let (writer, answer) = start(cipher, steps, &key, number, &mut expected);
+        let got = baseline::start(cipher, steps, &key, number, &mut buffer);
+        assert_eq!(got, (in_c(&writer), answer), "{name}");
+        assert_eq!(buffer, expected, "{name}");
+        answers[answer.err().unwrap_or(0) as usize] += 1;
+    }
+    for number in [0, 1, 2, 7] {
+        assert!(answers[number] > 20, "{answers:?}");
+    }
+}
+
+/// Adds and closes of any writers, some of them refused.
+#[test]
+fn adds_and_closes_are_those_of_the_reference() {
+    let mut random = Random::new(SEED + 1);
+    let mut answers = [0; 14];
+    for case in 0..6_000 {
+        let name = format!("seed {:X}, case {case}", SEED + 1);
+        let (cipher, steps) = match random.below(16) {
+            0 => (1, 14),
+            _ => random.one_of(&SUITES),
+        };
+        let most = [65_533, 65_534, 65_535, 65_535, 65_536, u64::MAX];
+        let units = match random.below(4) {
+            0 => random.one_of(&most),
+            _ => random.below(600) as u64,
+        };
+        let bound = units.wrapping_add(1).wrapping_mul(1_024);
+        let calls = match random.below(8) {
+            0 => random.one_of(&[bound, bound.wrapping_add(1), u64::MAX]),
+            _ => random.below(1_024) as u64,
+        };
+        let (s, t) = match random.below(10) {
+            0 => (0, random.below(20)),
+            1 => (4_096 + random.below(2), 4_096 + random.below(2)),
+            _ => (1 + random.below(60), random.below(60)),
+        };
+        let place = 12 + random.below(60);
+        let len = place + s + t + random.below(60);
+        let writer = Writer {
+            cipher,
+            steps,
+            key: random.bytes(),
+            number: random.number(),
+            place: match random.below(20) {
+                0 => random.one_of(&[0, 15, len as u64 + 1, u64::MAX]),
+                _ => place as u64,
+            },
+            units,
+            calls,
+            closed: random.below(8) == 0,
+        };
+        let mut codes = *b"ende";
+        if random.below(6) == 0 {
+            let byte = random.one_of(b"A`{ends");
+            codes[random.below(4)] = byte;
+        }
+        let (from, to) = ([codes[0], codes[1]], [codes[2], codes[3]]);
+        let to = if random.below(20) == 0 { from } else { to };
+        let (source, target) = (random.some_bytes(s), random.some_bytes(t));
+
+        let mut buffer = random.some_bytes(len);
+        let mut expected = buffer.clone();
+        let mut got = in_c(&writer);
+        let (after, answer, given) = if random.below(4) == 0 {
+            let (after, answer) = writer.close(&mut expected);
+            (after, answer, got.close(&mut buffer))
+        } else {
+            let (after, answer) = writer.add(&mut expected, from, to, &source, &target);
+            let given = got.add(&mut buffer, &from, &to, &source, &target);
+            (after, answer, given)
+        };
+        assert_eq!(given, answer, "{name}");
+        assert_eq!(got, in_c(&after), "{name}");
+        assert_eq!(buffer, expected, "{name}");
+        answers[answer.err().unwrap_or(0) as usize] += 1;
+    }
+    for number in [0, 7, 9, 10, 11, 12, 13] {
+        assert!(answers[number] > 50, "{answers:?}");
+    }
+}

@@ -1,0 +1,39 @@
+//! The accepted books of book.txt, taken apart and laid out again, at once and step by step.
+
+use reference::book::Book;
+use reference::cipher::SUITES;
+use reference::vectors::book_vectors;
+use reference::writer::start;
+
+#[test]
+fn accepted_books_are_laid_out_again() {
+    let vectors = book_vectors();
+    assert_eq!(vectors.len(), 80);
+    let mut suites = Vec::new();
+    for v in vectors {
+        let Ok((units, calls)) = v.answer else {
+            continue;
+        };
+        let key = v.key[..].try_into().expect("an accepted key");
+        let book = Book::taken_apart(&key, &v.book);
+        assert_eq!(book.units.len(), units, "line {}", v.line);
+        let again = book.laid_out();
+        assert_eq!(again, (v.book.clone(), calls), "line {}", v.line);
+
+        let mut buffer = vec![0; v.book.len()];
+        let (mut writer, mut answer) =
+            start(book.cipher, book.steps, &key, book.number, &mut buffer);
+        assert_eq!(answer, Ok(()), "line {}", v.line);
+        for unit in &book.units {
+            let (source, target) = (&unit.source, &unit.target);
+            (writer, answer) = writer.add(&mut buffer, unit.from, unit.to, source, target);
+            assert_eq!(answer, Ok(()), "line {}", v.line);
+        }
+        (writer, answer) = writer.close(&mut buffer);
+        assert_eq!(answer, Ok(()), "line {}", v.line);
+        assert_eq!(buffer, v.book, "line {}", v.line);
+        assert_eq!(writer.calls, calls as u64, "line {}", v.line);
+        suites.push((book.cipher, book.steps));
+    }
+    assert_eq!(suites, SUITES);
+}
