@@ -1,8 +1,9 @@
 /* Sealed books: the functions for C.
  *
- * Each function returns 0, or the number of the refusal that it gives (SB_* below). After a refusal everything that was
- * lent is as it was. No function keeps a pointer, allocates, or writes anywhere but through the parameters that are not
- * const. What is lent to be written must not overlap anything else that is lent to the same call.
+ * Each function that does something returns 0, or the number of the refusal that it gives (SB_* below). After a refusal
+ * everything that was lent is as it was, but for the writer of a refused sb_start, which is then a closed one. No function
+ * keeps a pointer, allocates, or writes anywhere but through the parameters that are not const. What is lent to be written
+ * must not overlap anything else that is lent to the same call.
  *
  * Link with libsealed_book.a (x86-64 Linux).
  */
@@ -29,6 +30,13 @@ extern "C" {
 #define SB_TEXT_TOO_LONG 6    /* the text is over its limit */
 #define SB_OUTPUT_TOO_SHORT 7 /* the output has no room for the result */
 #define SB_TAG_DIFFERS 8      /* the tag is not the one of these bytes: something was changed, or the key is another */
+#define SB_WRITER_INVALID 9   /* the writer has an unlisted suite, a place under 16 or past the buffer, a unit count over 65,535
+                                 or a call total over 1,024 * (unit count + 1): it comes from a refused start, the buffer is
+                                 shorter than before, or its bytes were changed */
+#define SB_WRITER_CLOSED 10   /* the writer is closed */
+#define SB_LANGUAGES 11       /* a language code has a byte that is no letter a to z, or the two codes are the same */
+#define SB_SEGMENT_LENGTH 12  /* the source has not 1 to 4,096 bytes, or the target has more than 4,096 */
+#define SB_TOO_MANY_UNITS 13  /* the book has 65,535 units already */
 
 /* Enciphers, or deciphers, one block of 16 bytes in place, under a key and a tweak of 16 bytes each.
  * Refusal: 1. */
@@ -60,6 +68,54 @@ uint32_t sb_seal(uint8_t cipher, uint8_t steps, const uint8_t *key, size_t key_l
 uint32_t sb_open(uint8_t cipher, uint8_t steps, const uint8_t *key, size_t key_len, const uint8_t *nonce, size_t nonce_len,
                  const uint8_t *header, size_t header_len, const uint8_t *sealed, size_t sealed_len,
                  uint8_t *out, size_t out_len, uint64_t *len);
+
+/* Writing a book.
+ *
+ * A book is written into one buffer by sb_start, then sb_add for each unit, then sb_close. The caller keeps the writer, 64 bytes,
+ * and the buffer, and lends both to each call; what stands before the writer's place must not be changed meanwhile. The book is
+ * the first sb_place(writer) bytes of the buffer. A book number must never be used twice under one key.
+ *
+ * A book takes 16 + the sum of (33 + source_len + target_len) over its units + 24 bytes.
+ *
+ * The writer's bytes, numbers big-endian:
+ *    0      cipher
+ *    1      steps
+ *    2      1 while the writer is open, 0 when it is closed; any other value counts as closed
+ *    3..7   not used: any content, 0 once a call has been done
+ *    8..15  book number
+ *   16..31  key
+ *   32..39  place: how many bytes of the buffer are written
+ *   40..47  unit count
+ *   48..55  call total: the number of cipher calls made for the book
+ *   56..63  not used, likewise
+ * Any 64 bytes may be lent: they are answered as the writer with these fields. 64 zero bytes, which a refused
+ * sb_start leaves, are a closed writer, and sb_add and sb_close refuse it with 9. The writer holds the key: clear it when the book
+ * is done.
+ */
+#define SB_WRITER_LEN 64
+
+/* Starts a book under a suite, a key of 16 bytes and a book number: writes 16 bytes to the start of buf, and leaves every other
+ * byte of buf as it was. A slice of length 0 may be null.
+ * Refusals, the first that applies: 1, 2, 7; then buf is as it was, and the writer's 64 bytes are 0: a closed writer. */
+uint32_t sb_start(uint8_t cipher, uint8_t steps, const uint8_t *key, size_t key_len, uint64_t number,
+                  uint8_t *buf, size_t buf_len, uint8_t writer[SB_WRITER_LEN]);
+
+/* Adds a unit: from and to are its language codes, two letters a to z each. Writes 33 + source_len + target_len bytes at the
+ * writer's place, leaves every other byte of buf as it was, and moves the writer on: place, unit count and call total. A slice
+ * of length 0 may be null.
+ * Refusals, the first that applies: 9, 10, 11, 12, 13, 7; then buf and writer are as they were. */
+uint32_t sb_add(uint8_t writer[SB_WRITER_LEN], uint8_t *buf, size_t buf_len, const uint8_t from[2], const uint8_t to[2],
+                const uint8_t *source, size_t source_len, const uint8_t *target, size_t target_len);
+
+/* Closes the book: writes 24 bytes at the writer's place, leaves every other byte of buf as it was, moves the writer's place and
+ * call total on and closes it. A slice of length 0 may be null.
+ * Refusals, the first that applies: 9, 10, 7; then buf and writer are as they were. */
+uint32_t sb_close(uint8_t writer[SB_WRITER_LEN], uint8_t *buf, size_t buf_len);
+
+/* The writer's place, unit count and call total. */
+uint64_t sb_place(const uint8_t writer[SB_WRITER_LEN]);
+uint64_t sb_units(const uint8_t writer[SB_WRITER_LEN]);
+uint64_t sb_calls(const uint8_t writer[SB_WRITER_LEN]);
 
 #ifdef __cplusplus
 }
