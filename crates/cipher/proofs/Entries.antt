@@ -13,9 +13,9 @@ use Rattle.state.specs.Block.{Block}
 use Rattle.blockwise.proofs.Each.{each-one, each-ext}
 use Rattle.rounds.proofs.Inverse.{decipher-encipher, encipher-decipher}
 use Rattle.runs.proofs.Runs.{encipher-run, decipher-run}
-use Rattle.cipher.specs.declared.refusal.Answer.the-variants.{Done, Refused}
-use Rattle.cipher.specs.declared.refusal.Refusal.the-variants.{SuiteNotListed}
-use Rattle.cipher.specs.Suite.{listed, cipherOf, suiteAnswer}
+use Rattle.suites.specs.declared.refusal.Answer.the-variants.{Done, Refused}
+use Rattle.suites.specs.declared.refusal.Refusal.the-variants.{SuiteNotListed}
+use Rattle.suites.specs.Suite.{listed, cipherOf, suiteAnswer}
 use Rattle.cipher.specs.Entry.{enciphered, deciphered, encipheredBlocks, decipheredBlocks}
 
 -- no suite has more than 14 steps

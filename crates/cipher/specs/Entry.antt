@@ -4,7 +4,7 @@ use mathlib.Core.List.{List}
 use Prim.Native.Nat.{ℕ}
 use Rattle.rounds.specs.Cipher.{encipher, decipher}
 use Rattle.blockwise.specs.Blocks.{eachBlock}
-use Rattle.cipher.specs.Suite.{listed, cipherOf}
+use Rattle.suites.specs.Suite.{listed, cipherOf}
 
 -- one block; where the suite is not listed (refusal 1) it stays as it was
 unfoldable pub enciphered : ℕ → ℕ → List ℕ → List ℕ → List ℕ → List ℕ

@@ -1,3 +1,1 @@
-pub mod Refusal
-pub mod Suite
 pub mod Entry

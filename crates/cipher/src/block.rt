@@ -1,11 +1,11 @@
 // One block: enciphered, deciphered, and a step of each.
-use crate::refusal::Answer;
-use crate::suite::Suite;
 use rounds::Cipher;
+use suites::refusal::Answer;
+use suites::suite::Suite;
 ghost use mathlib.Core.Path.{_≡_};
 ghost use Rattle.cipher.specs.Entry.{enciphered, deciphered};
 ghost use Rattle.rounds.specs.Cipher.{stepped, unstepped};
-ghost use Rattle.cipher.specs.Suite.{suiteAnswer};
+ghost use Rattle.suites.specs.Suite.{suiteAnswer};
 
 // A block with the answer; with a refusal it is the block that was given.
 pub struct Outcome {

@@ -1,10 +1,10 @@
 // Many blocks at once, each in place under its own tweak.
-use crate::refusal::Answer;
-use crate::refusal::Refusal;
-use crate::suite::Suite;
+use suites::refusal::Answer;
+use suites::refusal::Refusal;
+use suites::suite::Suite;
 ghost use mathlib.Core.Path.{_≡_};
 ghost use Rattle.cipher.specs.Entry.{encipheredBlocks, decipheredBlocks};
-ghost use Rattle.cipher.specs.Suite.{suiteAnswer};
+ghost use Rattle.suites.specs.Suite.{suiteAnswer};
 
 // Enciphers every whole block that both slices have, each in place under its own tweak. All other bytes stay, and a suite
 // that is not listed changes nothing.

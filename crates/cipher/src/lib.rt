@@ -1,5 +1,3 @@
-// The tweakable block ciphers Scream and iScream: suites, refusals, one block, one step, and many blocks at once.
+// The tweakable block ciphers Scream and iScream: one block, one step, and many blocks at once.
 pub mod block;
 pub mod blocks;
-pub mod refusal;
-pub mod suite;

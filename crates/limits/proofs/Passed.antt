@@ -6,11 +6,11 @@ use native.Mathlib.Nat.{min-le-left, min-le-right}
 use native.Mathlib.Omega.{arith}
 use borrow.Author.Tests.{leb-true, eqb-true, le-leb, eq-eqb}
 use lib.Dec.{eqb, leb}
-use Rattle.cipher.specs.declared.refusal.Answer.{Answer}
-use Rattle.cipher.specs.declared.refusal.Answer.the-variants.{Done}
-use Rattle.cipher.specs.declared.refusal.Refusal.{Refusal}
-use Rattle.cipher.specs.declared.refusal.Refusal.the-variants.{SuiteNotListed, KeyLength, NonceLength, HeaderTooLong, SealedTooShort, TextTooLong, OutputTooShort}
-use Rattle.cipher.specs.Suite.{listed}
+use Rattle.suites.specs.declared.refusal.Answer.{Answer}
+use Rattle.suites.specs.declared.refusal.Answer.the-variants.{Done}
+use Rattle.suites.specs.declared.refusal.Refusal.{Refusal}
+use Rattle.suites.specs.declared.refusal.Refusal.the-variants.{SuiteNotListed, KeyLength, NonceLength, HeaderTooLong, SealedTooShort, TextTooLong, OutputTooShort}
+use Rattle.suites.specs.Suite.{listed}
 use Rattle.limits.specs.Limits.{headerLimit, textLimit}
 use Rattle.limits.specs.Tests.{unless, inputTests, sealTests, sealedTests, openTests, verifyTests}
 

@@ -2,10 +2,10 @@
 use mathlib.Core.Bool.{Bool, cond, _&&_}
 use Prim.Native.Nat.{ℕ, _+_, _-_}
 use lib.Dec.{eqb, leb}
-use Rattle.cipher.specs.declared.refusal.Answer.{Answer}
-use Rattle.cipher.specs.declared.refusal.Answer.the-variants.{Done, Refused}
-use Rattle.cipher.specs.declared.refusal.Refusal.{Refusal}
-use Rattle.cipher.specs.declared.refusal.Refusal.the-variants.{
+use Rattle.suites.specs.declared.refusal.Answer.{Answer}
+use Rattle.suites.specs.declared.refusal.Answer.the-variants.{Done, Refused}
+use Rattle.suites.specs.declared.refusal.Refusal.{Refusal}
+use Rattle.suites.specs.declared.refusal.Refusal.the-variants.{
   SuiteNotListed,
   KeyLength,
   NonceLength,
@@ -14,7 +14,7 @@ use Rattle.cipher.specs.declared.refusal.Refusal.the-variants.{
   TextTooLong,
   OutputTooShort,
 }
-use Rattle.cipher.specs.Suite.{listed}
+use Rattle.suites.specs.Suite.{listed}
 use Rattle.limits.specs.Limits.{headerLimit, textLimit}
 
 -- one test, and those after it

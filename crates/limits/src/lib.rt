@@ -1,7 +1,7 @@
 // The limits of header and text, and the refusals that need only lengths.
-use cipher::refusal::Answer;
-use cipher::refusal::Refusal;
-use cipher::suite::Suite;
+use suites::refusal::Answer;
+use suites::refusal::Refusal;
+use suites::suite::Suite;
 ghost use mathlib.Core.Path.{_≡_};
 ghost use Prim.Native.Nat.{_+_, _-_};
 ghost use lib.Dec.{leb};
@@ -100,4 +100,12 @@ pub fn verify_tests(suite: Suite, k: usize, n: usize, a: usize, s: usize) -> Ans
     ensures { λ r. ⌜ r ≡ verifyTests (suite .cipher) (suite .steps) k n a s ⌝ }
 {
     sealed_tests(suite, k, n, a, s, Answer::Done)
+}
+
+// The same, of a text of m bytes with the tag apart.
+pub fn apart_tests(suite: Suite, k: usize, n: usize, a: usize, m: usize) -> Answer
+    ensures { λ r. ⌜ r ≡ verifyTests (suite .cipher) (suite .steps) k n a (m + 16) ⌝ }
+{
+    let rest = unless(m <= text_limit(n), Refusal::TextTooLong, Answer::Done);
+    input_tests(suite, k, n, a, rest)
 }

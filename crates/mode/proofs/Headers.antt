@@ -15,7 +15,7 @@ use Rattle.calls.specs.Tweak.{headerTweak, specialTweak, blocksOf, inner, lastH
 use Rattle.calls.proofs.Strung.{block-of-strung}
 use Rattle.calls.proofs.Tweaks.{length-tweak}
 use Rattle.cipher.specs.Entry.{encipheredBlocks}
-use Rattle.cipher.specs.declared.suite.Suite.{Suite}
+use Rattle.suites.specs.declared.suite.Suite.{Suite}
 use Rattle.blockwise.specs.Blocks.{block, strung}
 use Rattle.blockwise.proofs.Each.{block-long, strung-whole}
 use Rattle.sums.specs.Sums.{sumFrom}

@@ -1,5 +1,5 @@
 // The header's sum. A function with a precondition serves our own crates, which have tested what it asks.
-use cipher::suite::Suite;
+use suites::suite::Suite;
 use tweak::HeaderBlock;
 ghost use mathlib.Core.Path.{_≡_};
 ghost use Prim.Native.Nat.{_+_, _*_, _^_, _<_, _≤_};

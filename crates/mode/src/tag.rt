@@ -1,5 +1,5 @@
 // The tag: made, and compared. A function with a precondition serves our own crates, which have tested what it asks.
-use cipher::suite::Suite;
+use suites::suite::Suite;
 ghost use mathlib.Core.Path.{_≡_};
 ghost use Rattle.calls.specs.Pieces.{tagFrom};
 ghost use Rattle.bits.specs.Bytes.{sameBytes};

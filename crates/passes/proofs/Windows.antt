@@ -14,7 +14,7 @@ use Rattle.calls.specs.Pieces.{piece, through}
 use Rattle.calls.specs.Tweak.{blocksOf, inner}
 use Rattle.calls.proofs.ByBlocks.{inner-long, length-piece, length-through-part}
 use Rattle.calls.proofs.Strung.{block-of-strung, block-short}
-use Rattle.cipher.specs.declared.suite.Suite.{Suite}
+use Rattle.suites.specs.declared.suite.Suite.{Suite}
 use Rattle.blockwise.specs.Blocks.{block, strung}
 use Rattle.blockwise.proofs.Each.{block-long}
 use Rattle.sums.specs.Sums.{sumFrom}

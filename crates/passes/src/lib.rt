@@ -1,5 +1,5 @@
 // Passes over a ciphertext. Each public function serves our own crates, which have tested what it asks.
-use cipher::suite::Suite;
+use suites::suite::Suite;
 use tweak::TextBlock;
 ghost use mathlib.Core.Path.{_≡_};
 ghost use mathlib.Core.List.{_++_};

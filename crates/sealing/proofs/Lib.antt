@@ -1,1 +1,2 @@
 pub mod Sealed
+pub mod One

@@ -12,10 +12,10 @@ use Rattle.calls.specs.Pieces.{through, headerSum, tagFrom}
 use Rattle.calls.specs.Tweak.{blocksOf}
 use Rattle.calls.proofs.ByBlocks.{sealing-is, length-sealing, length-through, length-tagFrom, length-checksum, length-headerSum}
 use Rattle.calls.proofs.Distinct.{length-calls}
-use Rattle.cipher.specs.declared.refusal.Answer.{Answer}
-use Rattle.cipher.specs.declared.refusal.Answer.the-variants.{Done, Refused}
-use Rattle.cipher.specs.declared.refusal.Refusal.{Refusal}
-use Rattle.cipher.specs.declared.suite.Suite.{Suite}
+use Rattle.suites.specs.declared.refusal.Answer.{Answer}
+use Rattle.suites.specs.declared.refusal.Answer.the-variants.{Done, Refused}
+use Rattle.suites.specs.declared.refusal.Refusal.{Refusal}
+use Rattle.suites.specs.declared.suite.Suite.{Suite}
 use Rattle.limits.specs.Tests.{sealTests}
 use Rattle.limits.proofs.Passed.{seal-passed, header-limit-most, text-limit-most}
 use Rattle.sums.specs.Sums.{sumFrom}

@@ -4,7 +4,7 @@ use Prim.Native.Nat.{ℕ, _^_, _≤_}
 use lib.ListN.{length}
 use Rattle.calls.specs.Calls.{filled, sumOf}
 use Rattle.calls.specs.Pieces.{piece}
-use Rattle.cipher.specs.declared.suite.Suite.{Suite}
+use Rattle.suites.specs.declared.suite.Suite.{Suite}
 use Rattle.text_blocks.specs.Text.{Usable}
 use Rattle.text_blocks.specs.Under.{enciphers, deciphers}
 use Rattle.blockwise.specs.Blocks.{block}

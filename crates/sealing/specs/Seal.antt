@@ -4,9 +4,9 @@ use Prim.Native.Nat.{ℕ, _+_}
 use lib.ListN.{length, take, drop}
 use Rattle.calls.specs.Calls.{calls}
 use Rattle.calls.specs.Sealing.{sealing}
-use Rattle.cipher.specs.declared.refusal.Answer.{Answer}
-use Rattle.cipher.specs.declared.refusal.Answer.the-variants.{Done, Refused}
-use Rattle.cipher.specs.Suite.{cipherOf}
+use Rattle.suites.specs.declared.refusal.Answer.{Answer}
+use Rattle.suites.specs.declared.refusal.Answer.the-variants.{Done, Refused}
+use Rattle.suites.specs.Suite.{cipherOf}
 use Rattle.limits.specs.Tests.{sealTests}
 use Rattle.rounds.specs.Cipher.{encipher}
 use Rattle.sealing.specs.declared.seal.SealAnswer.{SealAnswer}

@@ -1,7 +1,7 @@
 // Sealing.
-use cipher::refusal::Answer;
-use cipher::refusal::Refusal;
-use cipher::suite::Suite;
+use suites::refusal::Answer;
+use suites::refusal::Refusal;
+use suites::suite::Suite;
 use tweak::TextBlock;
 ghost use mathlib.Core.Path.{_≡_};
 ghost use mathlib.Core.List.{_++_};

@@ -10,11 +10,11 @@ use lib.ListN.{length, getD, take, drop, replicate, List·getD-append}
 use lib.Seq.{take-length, length-take-le}
 use Rattle.bits.proofs.Fronts.{drop-zeros}
 use Rattle.calls.specs.Pieces.{through}
-use Rattle.cipher.specs.Suite.{listed}
-use Rattle.cipher.specs.declared.refusal.Answer.{Answer}
-use Rattle.cipher.specs.declared.refusal.Answer.the-variants.{Done, Refused}
-use Rattle.cipher.specs.declared.refusal.Refusal.{Refusal}
-use Rattle.cipher.specs.declared.suite.Suite.{Suite}
+use Rattle.suites.specs.Suite.{listed}
+use Rattle.suites.specs.declared.refusal.Answer.{Answer}
+use Rattle.suites.specs.declared.refusal.Answer.the-variants.{Done, Refused}
+use Rattle.suites.specs.declared.refusal.Refusal.{Refusal}
+use Rattle.suites.specs.declared.suite.Suite.{Suite}
 use Rattle.limits.specs.Limits.{headerLimit, textLimit}
 use Rattle.limits.specs.Tests.{openTests, verifyTests}
 use Rattle.limits.proofs.Passed.{open-passed, verify-passed, header-limit-most, text-limit-most}

@@ -16,23 +16,21 @@ use Rattle.calls.specs.Calls.{checksum, calls}
 use Rattle.calls.specs.Pieces.{through, headerSum}
 use Rattle.calls.specs.Sealing.{openingTag}
 use Rattle.calls.proofs.ByBlocks.{openingTag-is, length-tagFrom, length-checksum, length-headerSum, length-sealing}
-use Rattle.calls.proofs.Exact.{Inverse, open-exact, open-sealed, sealing-one}
-use Rattle.cipher.specs.declared.refusal.Answer.the-variants.{Done}
-use Rattle.cipher.specs.declared.refusal.Answer.{Answer}
-use Rattle.cipher.specs.declared.suite.Suite.{Suite}
-use Rattle.cipher.specs.Suite.{cipherOf}
+use Rattle.calls.proofs.Exact.{open-exact, open-sealed}
+use Rattle.suites.specs.declared.refusal.Answer.the-variants.{Done}
+use Rattle.suites.specs.declared.refusal.Answer.{Answer}
+use Rattle.suites.specs.declared.suite.Suite.{Suite}
 use Rattle.limits.proofs.Passed.{Openable as Passing, seal-passed, open-passed, open-passes}
 use Rattle.bits.specs.Bytes.{sameBytes}
 use Rattle.text_blocks.specs.Under.{enciphers, deciphers}
 use Rattle.text_blocks.proofs.Chunks.{enciphers-blockwise, deciphers-blockwise}
-use Rattle.rounds.proofs.Inverse.{encipher-block, decipher-block, decipher-encipher, encipher-decipher}
-use Rattle.state.specs.Block.{Block}
 use Rattle.tae.specs.Demand2.{Context, image, Sealable, Openable, Accepts, Differs, Demand2}
 use Rattle.tae.specs.Open.{ciphertext, opened, agrees, thenTag, openReport, openAnswer, openBuffer}
 use Rattle.sealing.specs.Seal.{sealed, sealOutcome, sealReport, sealAnswer, sealBuffer, written}
 use Rattle.tae.specs.declared.open.OpenAnswer.{OpenAnswer}
 use Rattle.tae.specs.declared.open.OpenAnswer.the-variants.{Opened, Refused as OpenRefused}
 use Rattle.sealing.specs.declared.seal.SealAnswer.the-variants.{Sealed}
+use Rattle.sealing.proofs.One.{inverse, sealed-one}
 use Rattle.tae.proofs.Answers.{open-done}
 use Rattle.tae.proofs.Opened.{opened-long}
 
@@ -69,18 +67,6 @@ module _ (u : Context) (key-bytes : Bytes (u .key)) (nonce-bytes : Bytes (u .non
   S : Suite
   S = record { cipher = u .cipher; steps = u .steps }
 
-  inverse : length (u .key) ≡ 16 → Inverse (enciphers S (u .key)) (deciphers S (u .key))
-  unfolding S
-  inverse l =
-      let k : Block (u .key) = record { long = l; fit = key-bytes .fit } in
-      let c = cipherOf (u .cipher) in
-      record {
-        ahead = λ t b ht hb. encipher-block c (u .steps) (u .key) t k ht b hb;
-        behind = λ t b ht hb. decipher-block c (u .steps) (u .key) t k ht b hb;
-        undo = λ t b ht hb. decipher-encipher c (u .steps) (u .key) t k ht b hb;
-        redo = λ t b ht hb. encipher-decipher c (u .steps) (u .key) t k ht b hb;
-      }
-
   tag-long : length (u .nonce) ≤ 15 → (x : List ℕ) → length (openingTag (enciphers S (u .key)) (deciphers S (u .key)) (u .nonce) (u .header) x) ≡ 16
   unfolding S
   tag-long short x =
@@ -95,9 +81,8 @@ module _ (u : Context) (key-bytes : Bytes (u .key)) (nonce-bytes : Bytes (u .non
   image-long short t = length-sealing (enciphers S (u .key)) (deciphers S (u .key)) (enciphers-blockwise S (u .key)) (u .nonce) short (u .header) t
 
   pub image-one : length (u .key) ≡ 16 → length (u .nonce) ≤ 15 → (t₁ t₂ : List ℕ) → Bytes t₁ → Bytes t₂ → image u t₁ ≡ image u t₂ → t₁ ≡ t₂
-  unfolding S sealed
-  image-one l short t₁ t₂ b₁ b₂ q =
-      sealing-one (enciphers S (u .key)) (deciphers S (u .key)) (enciphers-blockwise S (u .key)) (deciphers-blockwise S (u .key)) (inverse l) (u .nonce) short nonce-bytes (u .header) t₁ t₂ b₁ b₂ q
+  unfolding S
+  image-one l short t₁ t₂ b₁ b₂ q = sealed-one S (u .key) l key-bytes (u .nonce) (u .header) short nonce-bytes t₁ t₂ b₁ b₂ q
 
   -- sealed bytes agree in their tag and have the text t, if and only if they are t's image: of `open` and `verify` alike
   module _ (s : List ℕ) (whole : length (u .key) ≡ 16) (short : length (u .nonce) ≤ 15) where
@@ -105,7 +90,7 @@ module _ (u : Context) (key-bytes : Bytes (u .key)) (nonce-bytes : Bytes (u .non
         → (agrees (u .cipher) (u .steps) (u .key) (u .nonce) (u .header) s ≡ true) × (opened (u .cipher) (u .steps) (u .key) (u .nonce) (u .header) s ≡ t)
     unfolding S sealed opened agrees
     image-agrees t bt q =
-        let o = open-sealed (enciphers S (u .key)) (deciphers S (u .key)) (enciphers-blockwise S (u .key)) (deciphers-blockwise S (u .key)) (inverse whole) (u .nonce) short nonce-bytes (u .header) s t bt q in
+        let o = open-sealed (enciphers S (u .key)) (deciphers S (u .key)) (enciphers-blockwise S (u .key)) (deciphers-blockwise S (u .key)) (inverse S (u .key) whole key-bytes) (u .nonce) short nonce-bytes (u .header) s t bt q in
         (ap (λ (l : List ℕ). sameBytes 16 l (drop (length s - 16) s)) (o .0) ∙ same-refl 16 (drop (length s - 16) s), o .1)
 
     pub agrees-image : (t : List ℕ) → 16 ≤ length s → Bytes s → agrees (u .cipher) (u .steps) (u .key) (u .nonce) (u .header) s ≡ true
@@ -116,7 +101,7 @@ module _ (u : Context) (key-bytes : Bytes (u .key)) (nonce-bytes : Bytes (u .non
         let d = deciphers S (u .key) in
         let tag : openingTag e d (u .nonce) (u .header) (ciphertext s) ≡ drop (length s - 16) s =
         same-equal 16 (openingTag e d (u .nonce) (u .header) (ciphertext s)) (drop (length s - 16) s) (tag-long short (ciphertext s)) (length-drop (length s - 16) s ∙ omega arith) a in
-        open-exact e d (enciphers-blockwise S (u .key)) (deciphers-blockwise S (u .key)) (inverse whole) (u .nonce) short nonce-bytes (u .header) s t bs .0 (tag, q)
+        open-exact e d (enciphers-blockwise S (u .key)) (deciphers-blockwise S (u .key)) (inverse S (u .key) whole key-bytes) (u .nonce) short nonce-bytes (u .header) s t bs .0 (tag, q)
 
   module _ (s out : List ℕ) (op : Openable u s out) where
     A : Bool

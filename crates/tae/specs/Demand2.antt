@@ -9,8 +9,8 @@ use Prim.Native.Nat.{ℕ, _+_, _≤_}
 use lib.ListN.{length, drop}
 use Rattle.bits.specs.Bytes.{Bytes}
 use Rattle.calls.specs.Calls.{calls}
-use Rattle.cipher.specs.declared.refusal.Answer.the-variants.{Done}
-use Rattle.cipher.specs.declared.refusal.Refusal.the-variants.{TagDiffers}
+use Rattle.suites.specs.declared.refusal.Answer.the-variants.{Done}
+use Rattle.suites.specs.declared.refusal.Refusal.the-variants.{TagDiffers}
 use Rattle.limits.specs.Tests.{openTests}
 use Rattle.tae.specs.Open.{openAnswer, openBuffer}
 use Rattle.sealing.specs.Seal.{sealed, sealOutcome, sealAnswer, sealBuffer}

@@ -4,10 +4,10 @@ use mathlib.Core.List.{List}
 use Prim.Native.Nat.{ℕ, _-_}
 use lib.ListN.{length, take, drop}
 use Rattle.calls.specs.Sealing.{opening, openingTag}
-use Rattle.cipher.specs.declared.refusal.Answer.{Answer}
-use Rattle.cipher.specs.declared.refusal.Answer.the-variants.{Done, Refused}
-use Rattle.cipher.specs.declared.refusal.Refusal.the-variants.{TagDiffers}
-use Rattle.cipher.specs.Suite.{cipherOf}
+use Rattle.suites.specs.declared.refusal.Answer.{Answer}
+use Rattle.suites.specs.declared.refusal.Answer.the-variants.{Done, Refused}
+use Rattle.suites.specs.declared.refusal.Refusal.the-variants.{TagDiffers}
+use Rattle.suites.specs.Suite.{cipherOf}
 use Rattle.limits.specs.Tests.{unless, openTests}
 use Rattle.bits.specs.Bytes.{sameBytes}
 use Rattle.rounds.specs.Cipher.{encipher, decipher}

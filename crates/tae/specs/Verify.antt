@@ -2,8 +2,8 @@
 use mathlib.Core.List.{List}
 use Prim.Native.Nat.{ℕ}
 use lib.ListN.{length, getD}
-use Rattle.cipher.specs.declared.refusal.Answer.{Answer}
-use Rattle.cipher.specs.declared.refusal.Answer.the-variants.{Done, Refused}
+use Rattle.suites.specs.declared.refusal.Answer.{Answer}
+use Rattle.suites.specs.declared.refusal.Answer.the-variants.{Done, Refused}
 use Rattle.limits.specs.Tests.{verifyTests}
 use Rattle.tae.specs.declared.verify.VerifyAnswer.{VerifyAnswer}
 use Rattle.tae.specs.declared.verify.VerifyAnswer.the-variants.{Agrees, Refused as VerifyRefused}

@@ -1,13 +1,13 @@
 // Opening.
-use cipher::refusal::Answer;
-use cipher::refusal::Refusal;
-use cipher::suite::Suite;
+use suites::refusal::Answer;
+use suites::refusal::Refusal;
+use suites::suite::Suite;
 ghost use mathlib.Core.Path.{_≡_};
 ghost use mathlib.Core.List.{_++_};
 ghost use Prim.Native.Nat.{_-_, _%_, _≤_, min};
 ghost use lib.ListN.{length, take, drop};
 ghost use Rattle.calls.specs.Pieces.{through};
-ghost use Rattle.cipher.specs.declared.refusal.Answer.the-variants.{Done};
+ghost use Rattle.suites.specs.declared.refusal.Answer.the-variants.{Done};
 ghost use Rattle.text_blocks.specs.Under.{enciphers, deciphers};
 ghost use Rattle.tae.specs.Open.{ciphertext, opened, agrees, thenTag, openReport, openAnswer, openBuffer};
 ghost use Rattle.sealing.specs.Passes.{Passable};

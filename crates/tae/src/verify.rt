@@ -1,12 +1,11 @@
 // Opening without an output.
-use cipher::refusal::Answer;
-use cipher::refusal::Refusal;
-use cipher::suite::Suite;
+use suites::refusal::Answer;
+use suites::refusal::Refusal;
+use suites::suite::Suite;
 ghost use mathlib.Core.Path.{_≡_};
-ghost use Prim.Native.Nat.{_≤_};
-ghost use lib.ListN.{length};
-ghost use Rattle.cipher.specs.declared.refusal.Answer.the-variants.{Done};
-ghost use Rattle.tae.specs.Open.{ciphertext, opened, agrees, thenTag};
+ghost use mathlib.Core.List.{_++_};
+ghost use Rattle.suites.specs.declared.refusal.Answer.the-variants.{Done};
+ghost use Rattle.tae.specs.Open.{opened, agrees, thenTag};
 ghost use Rattle.sealing.specs.Passes.{Passable};
 ghost use Rattle.tae.specs.Verify.{verifyAnswer, verifyReport};
 
@@ -16,21 +15,21 @@ pub enum VerifyAnswer {
     Refused(Refusal),
 }
 
-// The first two bytes of the text if the tag agrees.
+// The first two bytes of the text if the tag agrees; ciphertext and tag are apart.
 fn verify_tested(
     suite: Suite,
     key: [u8; 16],
     nonce: &[u8],
     header: &[u8],
-    sealed: &[u8],
+    c: &[u8],
+    tag: [u8; 16],
 ) -> VerifyAnswer
-    requires { ⌜ Passable suite (now nonce) (now header) × Passable suite (now nonce) (ciphertext (now sealed)) × (16 ≤ length (now sealed)) ⌝ }
-    ensures { λ r. ⌜ r ≡ verifyReport (thenTag Done (agrees (suite .cipher) (suite .steps) key (now (nonce .entry)) (now (header .entry)) (now (sealed .entry)))) (opened (suite .cipher) (suite .steps) key (now (nonce .entry)) (now (header .entry)) (now (sealed .entry))) ⌝ }
+    requires { ⌜ Passable suite (now nonce) (now header) × Passable suite (now nonce) (now c) ⌝ }
+    ensures { λ r. ⌜ r ≡ verifyReport (thenTag Done (agrees (suite .cipher) (suite .steps) key (now (nonce .entry)) (now (header .entry)) (now (c .entry) ++ tag))) (opened (suite .cipher) (suite .steps) key (now (nonce .entry)) (now (header .entry)) (now (c .entry) ++ tag)) ⌝ }
 {
     let mut work = [0u8; 1024];
-    let m = sealed.len() - 16;
-    let tag = passes::tag_of(suite, key, nonce, header, &sealed[..m], &mut work);
-    if mode::tag::same(tag, blockwise::block_at(sealed, m)) {
+    let made = passes::tag_of(suite, key, nonce, header, c, &mut work);
+    if mode::tag::same(made, tag) {
         return VerifyAnswer::Agrees(work[0], work[1]);
     }
     VerifyAnswer::Refused(Refusal::TagDiffers)
@@ -45,7 +44,30 @@ pub fn verify(suite: Suite, key: &[u8], nonce: &[u8], header: &[u8], sealed: &[u
         Answer::Refused(why) => VerifyAnswer::Refused(why),
         Answer::Done => {
             let k = blockwise::block_at(key, 0);
-            verify_tested(suite, k, nonce, header, sealed)
+            let m = sealed.len() - 16;
+            let tag = blockwise::block_at(sealed, m);
+            verify_tested(suite, k, nonce, header, &sealed[..m], tag)
+        }
+    }
+}
+
+// The same, with ciphertext and tag apart.
+pub fn verify_apart(
+    suite: Suite,
+    key: &[u8],
+    nonce: &[u8],
+    header: &[u8],
+    c: &[u8],
+    tag: [u8; 16],
+) -> VerifyAnswer
+    ensures { λ r. ⌜ r ≡ verifyAnswer (suite .cipher) (suite .steps) (now (key .entry)) (now (nonce .entry)) (now (header .entry)) (now (c .entry) ++ tag) ⌝ }
+{
+    let tested = limits::apart_tests(suite, key.len(), nonce.len(), header.len(), c.len());
+    match tested {
+        Answer::Refused(why) => VerifyAnswer::Refused(why),
+        Answer::Done => {
+            let k = blockwise::block_at(key, 0);
+            verify_tested(suite, k, nonce, header, c, tag)
         }
     }
 }

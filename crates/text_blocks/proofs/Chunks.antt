@@ -8,8 +8,8 @@ use native.Mathlib.Omega.{arith}
 use lib.ListN.{length, take, drop, length-append, length-drop, take-append-drop}
 use lib.Seq.{take-at, drop-at, drop-drop, take-append-le, drop-append-le, length-take-le}
 use Rattle.cipher.specs.Entry.{encipheredBlocks, decipheredBlocks}
-use Rattle.cipher.specs.Suite.{listed, cipherOf}
-use Rattle.cipher.specs.declared.suite.Suite.{Suite}
+use Rattle.suites.specs.Suite.{listed, cipherOf}
+use Rattle.suites.specs.declared.suite.Suite.{Suite}
 use Rattle.blockwise.specs.Blocks.{block, strung, eachOf, eachBlock}
 use Rattle.blockwise.proofs.Each.{Blockwise, strung-whole, block-long}
 use Rattle.runs.proofs.Runs.{ahead-blockwise, back-blockwise, encipher-run, decipher-run}

@@ -5,8 +5,8 @@ use mathlib.Core.Logic.{_⊎_}
 use mathlib.Core.List.{List}
 use Prim.Native.Nat.{ℕ, _+_, _*_, _%_, _^_, _≤_}
 use lib.ListN.{length}
-use Rattle.cipher.specs.declared.suite.Suite.{Suite}
-use Rattle.cipher.specs.Suite.{listed}
+use Rattle.suites.specs.declared.suite.Suite.{Suite}
+use Rattle.suites.specs.Suite.{listed}
 
 -- a listed suite and a nonce of at most 15 bytes
 pub record Usable (s : Suite) (nonce : List ℕ) : Type 0 where

@@ -2,8 +2,8 @@
 use mathlib.Core.Bool.{Bool, cond}
 use mathlib.Core.List.{List}
 use Prim.Native.Nat.{ℕ}
-use Rattle.cipher.specs.declared.suite.Suite.{Suite}
-use Rattle.cipher.specs.Suite.{cipherOf}
+use Rattle.suites.specs.declared.suite.Suite.{Suite}
+use Rattle.suites.specs.Suite.{cipherOf}
 use Rattle.rounds.specs.Cipher.{encipher, decipher}
 
 abbrev pub enciphers : Suite → List ℕ → List ℕ → List ℕ → List ℕ

@@ -1,5 +1,5 @@
 // Text blocks. A function with a precondition serves our own crates, which have tested what it asks.
-use cipher::suite::Suite;
+use suites::suite::Suite;
 use tweak::TextBlock;
 ghost use mathlib.Core.Bool.{true, cond};
 ghost use mathlib.Core.Path.{_≡_};
@@ -9,7 +9,7 @@ ghost use lib.ListN.{length, drop};
 ghost use Rattle.calls.specs.Calls.{lengthBlock};
 ghost use Rattle.calls.specs.Pieces.{through};
 ghost use Rattle.calls.specs.Tweak.{textTweak, specialTweak, full, lastTextMark};
-ghost use Rattle.cipher.specs.Suite.{listed};
+ghost use Rattle.suites.specs.Suite.{listed};
 ghost use Rattle.blockwise.specs.Blocks.{strung, block};
 ghost use Rattle.text_blocks.specs.Under.{enciphers, either};
 ghost use Rattle.text_blocks.specs.Text.{Usable, Part};

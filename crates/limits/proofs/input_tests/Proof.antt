@@ -3,8 +3,8 @@ use mathlib.Core.Path.{ap, _∙_}
 use mathlib.Core.Bool.{_&&_}
 use borrow.Author.Needs.{needs}
 use lib.Dec.{eqb, leb}
-use Rattle.cipher.specs.declared.refusal.Refusal.the-variants.{SuiteNotListed, KeyLength, NonceLength, HeaderTooLong}
-use Rattle.cipher.specs.Suite.{listed}
+use Rattle.suites.specs.declared.refusal.Refusal.the-variants.{SuiteNotListed, KeyLength, NonceLength, HeaderTooLong}
+use Rattle.suites.specs.Suite.{listed}
 use Rattle.limits.specs.Tests.{unless, inputTests}
 use Rattle.limits.proofs.input_tests.Statement.{statement}
 use Rattle.limits.proofs.input_tests.Tie as tie

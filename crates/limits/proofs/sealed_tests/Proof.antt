@@ -2,7 +2,7 @@
 use mathlib.Core.Path.{ap, _∙_}
 use borrow.Author.Needs.{needs}
 use lib.Dec.{leb}
-use Rattle.cipher.specs.declared.refusal.Refusal.the-variants.{SealedTooShort, TextTooLong}
+use Rattle.suites.specs.declared.refusal.Refusal.the-variants.{SealedTooShort, TextTooLong}
 use Rattle.limits.specs.Limits.{textLimit}
 use Rattle.limits.specs.Tests.{unless, inputTests, sealedTests}
 use Rattle.limits.proofs.sealed_tests.Statement.{statement}

@@ -1,10 +1,12 @@
 -- The loop has done i of the n steps.
-use mathlib.Core.Path.{_≡_, refl, _∙_}
-use Prim.Native.Nat.{_+_, _-_, _≤_}
+use mathlib.Core.Path.{_≡_, refl, sym, ap, _∙_}
+use mathlib.Core.List.{List}
+use Prim.Native.Nat.{ℕ, _+_, _-_, _*_, _≤_}
 use native.Mathlib.Omega.{arith}
 use borrow.Author.Needs.{needs}
-use Rattle.rounds.specs.Cipher.{parts, steps}
+use Rattle.rounds.specs.Cipher.{parts, round, steps}
 use Rattle.tweakey.specs.Schedule.{tweakeysIn}
+use Rattle.state.specs.Rows.{addRows}
 use Rattle.state.specs.State.{rowsOf}
 use Rattle.steps.proofs.Turns.{steps-next}
 use Rattle.tweakey.proofs.Tweakeys.{tweakeys-in}
@@ -42,9 +44,16 @@ loop-less c = omega arith
 loop-again : tie.Need-loop-again Inv-loop μ-loop
 loop-again c =
     let h = c .before .before .before .before .before .before in
-    let a = h .before .args in (
+    let a = h .before .args in
+    let q = parts (a .k) in
+    let n = a .s + h .loop .i in
+    let w = c .before .before .before .two-rounds .ensures
+    ∙ ap (λ (l : List ℕ). round q (2 * n + 2) (round q (2 * n + 1) l)) (c .before .before .before .before .rows-of .ensures ∙ h .loop .inv .1) in
+    let u = ap rowsOf (c .before .tweakey .ensures) ∙ sym (tweakeys-in (a .k) (a .h) (n + 1)) in (
       omega arith,
-      cc (steps-next (parts (a .k)) (tweakeysIn (a .k) (a .h)) (a .s) (h .loop .i) (rowsOf (a .x)), tweakeys-in (a .k) (a .h) (a .s + h .loop .i + 1)),
+      c .add .ensures
+          ∙ (λ j. addRows ((c .before .before .state-of .ensures ∙ w) j) (u j))
+          ∙ steps-next q (tweakeysIn (a .k) (a .h)) (a .s) (h .loop .i) (rowsOf (a .x)),
     )
 
 returns : tie.Need-returns Inv-loop μ-loop

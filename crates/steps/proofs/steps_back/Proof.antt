@@ -1,10 +1,12 @@
 -- The loop has i of the n steps yet to undo.
-use mathlib.Core.Path.{_≡_, refl, _∙_}
-use Prim.Native.Nat.{_+_, _-_, _≤_}
+use mathlib.Core.Path.{_≡_, refl, sym, ap, _∙_}
+use mathlib.Core.List.{List}
+use Prim.Native.Nat.{ℕ, _+_, _-_, _*_, _≤_}
 use native.Mathlib.Omega.{arith}
 use borrow.Author.Needs.{needs}
-use Rattle.rounds.specs.Cipher.{parts, unsteps}
+use Rattle.rounds.specs.Cipher.{parts, unround, unsteps}
 use Rattle.tweakey.specs.Schedule.{tweakeysIn}
+use Rattle.state.specs.Rows.{addRows}
 use Rattle.state.specs.State.{rowsOf}
 use Rattle.steps.proofs.Turns.{unsteps-next}
 use Rattle.tweakey.proofs.Tweakeys.{tweakeys-in}
@@ -39,9 +41,17 @@ loop-less c = omega arith
 loop-again : tie.Need-loop-again Inv-loop μ-loop
 loop-again c =
     let h = c .before .before .before .before .before .before in
-    let a = h .before .args in (
+    let a = h .before .args in
+    let q = parts (a .k) in
+    let tk = tweakeysIn (a .k) (a .h) in
+    let m = h .loop .i - 1 in
+    let u = ap rowsOf (c .before .before .before .before .tweakey .ensures) ∙ sym (tweakeys-in (a .k) (a .h) (a .s + h .loop .i)) in
+    let z = c .before .before .rows-of .ensures ∙ c .before .before .before .add .ensures ∙ ap (addRows (rowsOf (h .loop .y))) u in
+    let w = c .before .two-rounds-back .ensures ∙ ap (λ (l : List ℕ). unround q (2 * (a .s + m) + 1) (unround q (2 * (a .s + m) + 2) l)) z in (
       omega arith,
-      cc (unsteps-next (parts (a .k)) (tweakeysIn (a .k) (a .h)) (a .s) (h .loop .i) (rowsOf (h .loop .y)) (omega arith), tweakeys-in (a .k) (a .h) (a .s + h .loop .i)),
+      ap (unsteps q tk (a .s) m) (c .state-of .ensures ∙ w)
+          ∙ unsteps-next q tk (a .s) (h .loop .i) (rowsOf (h .loop .y)) (omega arith)
+          ∙ h .loop .inv .1,
     )
 
 returns : tie.Need-returns Inv-loop μ-loop

@@ -1,9 +1,12 @@
 -- The loop has done the first p rounds of the step.
-use mathlib.Core.Path.{_≡_, refl, _∙_}
-use Prim.Native.Nat.{_+_, _-_, _*_, _≤_}
+use mathlib.Core.Path.{_≡_, refl, ap, _∙_}
+use mathlib.Core.List.{List}
+use Prim.Native.Nat.{ℕ, _+_, _-_, _*_, _≤_}
 use native.Mathlib.Omega.{arith}
 use borrow.Author.Needs.{needs}
-use Rattle.rounds.specs.Cipher.{parts}
+use Rattle.lbox.specs.Lbox
+use Rattle.sbox.specs.Sbox
+use Rattle.rounds.specs.Cipher.{parts, addConstant}
 use Rattle.steps.proofs.Turns.{turns, turns-two, turn, constant-at}
 use Rattle.steps.proofs.two_rounds.Statement.{statement}
 use Rattle.steps.proofs.two_rounds.Tie as tie
@@ -46,7 +49,13 @@ loop-again c =
     let h = c .before .before .before .before in
     let a = h .before .args in
     let v = constant-at (a .c .now) (h .before .pre .1 .constants-are) (2 * a .s + h .loop .p + 1) (omega arith) in
-    (omega arith, cc (turn (parts (a .k)) (a .s) (h .loop .p) (a .w) (c .before .wide .result) (c .before .wide .ensures ∙ v)))
+    let q = parts (a .k) in
+    let r = c .before .wide .result in (
+      omega arith,
+      c .round .ensures
+          ∙ ap (λ (x : List ℕ). Lbox.layer (q .lbox) (addConstant r (Sbox.layer (q .sbox) x))) (h .loop .inv .1)
+          ∙ turn q (a .s) (h .loop .p) (a .w) r (c .before .wide .ensures ∙ v),
+    )
 
 returns : tie.Need-returns Inv-loop μ-loop
 returns c =

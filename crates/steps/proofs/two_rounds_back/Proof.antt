@@ -1,5 +1,5 @@
 -- The loop has the first p rounds of the step yet to undo.
-use mathlib.Core.Path.{_≡_, refl, _∙_}
+use mathlib.Core.Path.{_≡_, refl, ap, _∙_}
 use Prim.Native.Nat.{_+_, _-_, _*_, _≤_}
 use native.Mathlib.Omega.{arith}
 use borrow.Author.Needs.{needs}
@@ -45,7 +45,12 @@ loop-again c =
     let h = c .before .before .before .before in
     let a = h .before .args in
     let v = constant-at (a .c .now) (h .before .pre .1 .constants-are) (2 * a .s + (h .loop .p - 1) + 1) (omega arith) in
-    (omega arith, cc (unturn (parts (a .k)) (a .s) (h .loop .p) (h .loop .x) (c .before .wide .result) (omega arith) (c .before .wide .ensures ∙ v)))
+    let q = parts (a .k) in (
+      omega arith,
+      ap (unturns q (a .s) (h .loop .p - 1)) (c .round-back .ensures)
+          ∙ unturn q (a .s) (h .loop .p) (h .loop .x) (c .before .wide .result) (omega arith) (c .before .wide .ensures ∙ v)
+          ∙ h .loop .inv .1,
+    )
 
 returns : tie.Need-returns Inv-loop μ-loop
 unfolding unturns

@@ -7,7 +7,7 @@ use borrow.Author.Tests.{not-true, not-false, le-leb}
 use borrow.Author.Needs.{needs}
 use Rattle.blockwise.specs.Blocks.{eachBlock}
 use Rattle.runs.specs.Run.{aheadBlock}
-use Rattle.cipher.specs.Suite.{listed}
+use Rattle.suites.specs.Suite.{listed}
 use Rattle.cipher.proofs.Entries.{listed-steps, listed-answer, unlisted-answer, encipher-listed, encipher-unlisted}
 use Rattle.cipher.proofs.blocks.encipher_blocks.Statement.{statement}
 use Rattle.cipher.proofs.blocks.encipher_blocks.Tie as tie

@@ -6,7 +6,7 @@ use native.Mathlib.Nat.{le-of-eq}
 use borrow.Author.Needs.{needs}
 use lib.ListN.{length, drop}
 use lib.Seq.{take-all}
-use Rattle.cipher.specs.declared.refusal.Answer.the-variants.{Done}
+use Rattle.suites.specs.declared.refusal.Answer.the-variants.{Done}
 use Rattle.sealing.specs.Seal.{sealed, sealOutcome, sealAnswer, sealBuffer}
 use Rattle.sealing.specs.declared.seal.SealAnswer.the-variants.{Sealed}
 use Rattle.sealing.proofs.Sealed.{Passed, tests, passed, seal-refused, seal-done}

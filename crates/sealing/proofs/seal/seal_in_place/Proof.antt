@@ -7,7 +7,7 @@ use native.Mathlib.Omega.{arith}
 use borrow.Author.Needs.{needs}
 use lib.ListN.{length, take, drop}
 use lib.Seq.{take-all, length-take-le}
-use Rattle.cipher.specs.declared.refusal.Answer.the-variants.{Done}
+use Rattle.suites.specs.declared.refusal.Answer.the-variants.{Done}
 use Rattle.sealing.specs.Seal.{sealed, inPlaceOutcome, inPlaceAnswer, inPlaceBuffer}
 use Rattle.sealing.specs.declared.seal.SealAnswer.the-variants.{Sealed}
 use Rattle.sealing.proofs.Sealed.{Passed, tests, passed, seal-refused, seal-done}

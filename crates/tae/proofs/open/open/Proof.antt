@@ -5,7 +5,7 @@ use native.Mathlib.Nat.{le-of-eq}
 use borrow.Author.Needs.{needs}
 use lib.ListN.{length}
 use lib.Seq.{take-all}
-use Rattle.cipher.specs.declared.refusal.Answer.the-variants.{Done}
+use Rattle.suites.specs.declared.refusal.Answer.the-variants.{Done}
 use Rattle.limits.specs.Tests.{openTests}
 use Rattle.tae.specs.Open.{opened, agrees, thenTag, openReport}
 use Rattle.sealing.specs.Seal.{written}

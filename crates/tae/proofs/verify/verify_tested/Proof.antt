@@ -1,64 +1,52 @@
 -- The tag is made and compared; the first window has the text's first bytes.
 use mathlib.Core.Path.{_≡_, refl, sym, ap, _∙_}
-use mathlib.Core.List.{[]}
-use Prim.Native.Nat.{ℕ, _-_, _<_}
+use mathlib.Core.List.{_++_}
+use Prim.Native.Nat.{ℕ, _<_}
 use native.Mathlib.Omega.{arith}
 use borrow.Author.Needs.{needs}
 use lib.Dec.{lit≤}
-use lib.ListN.{length, getD, take}
-use lib.Seq.{length-take-le}
-use Rattle.cipher.specs.declared.refusal.Answer.the-variants.{Done}
+use lib.ListN.{length, getD}
+use Rattle.suites.specs.declared.refusal.Answer.the-variants.{Done}
 use Rattle.bits.specs.Bytes.{sameBytes}
-use Rattle.tae.specs.Open.{ciphertext, opened, agrees, thenTag}
+use Rattle.tae.specs.Open.{opened, agrees, thenTag}
 use Rattle.tae.specs.Verify.{verifyReport}
 use Rattle.tae.specs.declared.verify.VerifyAnswer.the-variants.{Agrees}
-use Rattle.tae.proofs.Opened.{opened-is, agrees-is}
+use Rattle.tae.proofs.Opened.{apart-agrees, apart-opened}
 use Rattle.tae.proofs.Answers.{window-byte}
 use Rattle.tae.proofs.verify.verify_tested.Statement.{statement}
 use Rattle.tae.proofs.verify.verify_tested.Tie as tie
 
-front : (c : tie.Start) → length (take (length (c .args .sealed .now) - 16) (c .args .sealed .now)) ≡ length (c .args .sealed .now) - 16
-front c = length-take-le (length (c .args .sealed .now) - 16) (c .args .sealed .now) (omega arith)
+whole : (c : tie.Start) → length (c .args .tag) ≡ 16
+whole c = omega arith
 
-same : (c : tie.After-same) → let a = c .before .before .before .before .before .before .before .before .before .args in c .same .result ≡ agrees (a .suite .cipher) (a .suite .steps) (a .key) (a .nonce .now) (a .header .now) (a .sealed .now)
+same : (c : tie.After-same) → let a = c .before .before .before .before .before .before .before .args in c .same .result ≡ agrees (a .suite .cipher) (a .suite .steps) (a .key) (a .nonce .now) (a .header .now) (a .c .now ++ a .tag)
 same c =
-    let t = c .before .before .before in
-    let p = t .before .before .before .before .before .before in
+    let t = c .before .before in
+    let p = t .before .before .before .before .before in
     let a = p .args in
     c .same .ensures
-    ∙ (λ i. sameBytes 16 (t .tag-of .ensures .0 i) (c .before .block-at .ensures i))
-    ∙ agrees-is (a .suite) (a .key) (a .nonce .now) (a .header .now) (a .sealed .now) (p .pre .2)
+    ∙ ap (λ x. sameBytes 16 x (a .tag)) (t .tag-of .ensures .0)
+    ∙ apart-agrees (a .c .now) (a .tag) (whole p) (a .suite) (a .key) (a .nonce .now) (a .header .now)
 
 returns : tie.Need-returns
 returns c =
-    let t = c .before .before .before .before in
-    let p = t .before .before .before .before .before .before in
+    let t = c .before .before .before in
+    let p = t .before .before .before .before .before in
     let a = p .args in
-    let x = ciphertext (a .sealed .now) in
-    let byte : (i : ℕ) → i < 1024 → getD (t .tag-of .last .1 .1 .1 .1 .1 .0) i 0 ≡ getD (opened (a .suite .cipher) (a .suite .steps) (a .key) (a .nonce .now) (a .header .now) (a .sealed .now)) i 0 =
+    let x = a .c .now ++ a .tag in
+    let byte : (i : ℕ) → i < 1024 → getD (t .tag-of .last .1 .1 .1 .1 .1 .0) i 0 ≡ getD (opened (a .suite .cipher) (a .suite .steps) (a .key) (a .nonce .now) (a .header .now) x) i 0 =
     λ i h.
     ap (λ l. getD l i 0) (t .tag-of .ensures .1)
-    ∙ window-byte (a .suite) (a .key) (a .nonce .now) (p .pre .1 .usable .short) x (p .pre .1 .small) 1024 refl i h
-    ∙ ap (λ l. getD l i 0) (sym (opened-is (a .suite) (a .key) (a .nonce .now) (a .header .now) (a .sealed .now) [] (p .pre .1 .usable .short))) in
+    ∙ window-byte (a .suite) (a .key) (a .nonce .now) (p .pre .1 .usable .short) (a .c .now) (p .pre .1 .small) 1024 refl i h
+    ∙ ap (λ l. getD l i 0) (sym (apart-opened (a .c .now) (a .tag) (whole p) (a .suite) (a .key) (a .nonce .now) (a .header .now))) in
     (λ i. Agrees (byte 0 (lit≤ tt) i) (byte 1 (lit≤ tt) i))
-    ∙ ap (λ b. verifyReport (thenTag Done b) (opened (a .suite .cipher) (a .suite .steps) (a .key) (a .nonce .now) (a .header .now) (a .sealed .now))) (sym (sym (same (c .before)) ∙ c .if1 .taken))
+    ∙ ap (λ b. verifyReport (thenTag Done b) (opened (a .suite .cipher) (a .suite .steps) (a .key) (a .nonce .now) (a .header .now) x)) (sym (sym (same (c .before)) ∙ c .if1 .taken))
 
 returns-2 : tie.Need-returns-2
 returns-2 c =
-    let a = c .before .before .before .before .before .before .before .before .before .before .args in
-    ap (λ b. verifyReport (thenTag Done b) (opened (a .suite .cipher) (a .suite .steps) (a .key) (a .nonce .now) (a .header .now) (a .sealed .now))) (sym (sym (same (c .before)) ∙ c .if1 .left))
+    let a = c .before .before .before .before .before .before .before .before .args in
+    ap (λ b. verifyReport (thenTag Done b) (opened (a .suite .cipher) (a .suite .steps) (a .key) (a .nonce .now) (a .header .now) (a .c .now ++ a .tag))) (sym (sym (same (c .before)) ∙ c .if1 .left))
 
 pub verify-tested-spec : {M : Type 1} → statement M
 verify-tested-spec =
-    tie.close
-    (tie.spec
-    (λ c. search needs)
-    (λ c. sym (front (c .before .before .before .before)))
-    (λ c. search needs)
-    (λ c κs. search needs)
-    (λ c κs. search needs)
-    (λ c κs. search needs)
-    (λ c. search needs)
-    (λ c. search needs)
-    returns
-    returns-2)
+    tie.close (tie.spec (λ c. search needs) (λ c κs. search needs) (λ c κs. search needs) (λ c. search needs) (λ c. search needs) returns returns-2)

@@ -1,6 +1,6 @@
 // Why a call is turned down: one list for the whole library.
 ghost use mathlib.Core.Path.{_≡_};
-ghost use Rattle.cipher.specs.Refusal.{number};
+ghost use Rattle.suites.specs.Refusal.{number};
 
 pub enum Refusal {
     SuiteNotListed,

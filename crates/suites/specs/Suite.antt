@@ -2,13 +2,13 @@
 use mathlib.Core.Bool.{Bool, _&&_, _||_, cond}
 use Prim.Native.Nat.{ℕ}
 use lib.Dec.{eqb}
-use Rattle.cipher.specs.declared.refusal.Answer.{Answer}
-use Rattle.cipher.specs.declared.refusal.Answer.the-variants.{Done, Refused}
-use Rattle.cipher.specs.declared.refusal.Refusal.the-variants.{SuiteNotListed}
+use Rattle.suites.specs.declared.refusal.Answer.{Answer}
+use Rattle.suites.specs.declared.refusal.Answer.the-variants.{Done, Refused}
+use Rattle.suites.specs.declared.refusal.Refusal.the-variants.{SuiteNotListed}
 use Rattle.rounds.specs.declared.Cipher.{Cipher}
 use Rattle.rounds.specs.declared.Cipher.the-variants.{Scream, IScream}
-use Rattle.cipher.specs.declared.suite.Made.{Made}
-use Rattle.cipher.specs.declared.suite.Made.the-variants.{Listed, Refused as MakerRefused}
+use Rattle.suites.specs.declared.suite.Made.{Made}
+use Rattle.suites.specs.declared.suite.Made.the-variants.{Listed, Refused as MakerRefused}
 
 -- "A suite is two bytes: cipher (1 Scream, 2 iScream) and steps. Each cipher has exactly four step counts:
 -- 6, 8, 10, 12 for Scream, 8, 10, 12, 14 for iScream."

@@ -2,12 +2,12 @@
 use mathlib.Core.Path.{sym, ap, _∙_}
 use mathlib.Core.Bool.{Bool, cond}
 use Prim.Native.Nat.{ℕ}
-use Rattle.cipher.specs.declared.suite.Made.{Made}
-use Rattle.cipher.specs.declared.suite.Made.the-variants.{Listed, Refused}
-use Rattle.cipher.specs.declared.refusal.Refusal.the-variants.{SuiteNotListed}
+use Rattle.suites.specs.declared.suite.Made.{Made}
+use Rattle.suites.specs.declared.suite.Made.the-variants.{Listed, Refused}
+use Rattle.suites.specs.declared.refusal.Refusal.the-variants.{SuiteNotListed}
 use borrow.Author.Needs.{needs}
-use Rattle.cipher.proofs.suite.Suite.make.Statement.{statement}
-use Rattle.cipher.proofs.suite.Suite.make.Tie as tie
+use Rattle.suites.proofs.suite.Suite.make.Statement.{statement}
+use Rattle.suites.proofs.suite.Suite.make.Tie as tie
 
 abbrev choice : ℕ → ℕ → Bool → Made
 choice cipher steps b = cond b (Listed (record { cipher = cipher; steps = steps })) (Refused SuiteNotListed)

@@ -1,7 +1,7 @@
 -- The causes for which a call is turned down, and their numbers.
 use Prim.Native.Nat.{ℕ}
-use Rattle.cipher.specs.declared.refusal.Refusal.{Refusal}
-use Rattle.cipher.specs.declared.refusal.Refusal.the-variants.{
+use Rattle.suites.specs.declared.refusal.Refusal.{Refusal}
+use Rattle.suites.specs.declared.refusal.Refusal.the-variants.{
   SuiteNotListed,
   KeyLength,
   NonceLength,

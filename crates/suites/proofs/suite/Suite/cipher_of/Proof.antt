@@ -1,7 +1,7 @@
 -- Each arm by its test.
 use borrow.Author.Tests.{eq-eqb, ne-eqb}
-use Rattle.cipher.proofs.suite.Suite.cipher_of.Statement.{statement}
-use Rattle.cipher.proofs.suite.Suite.cipher_of.Tie as tie
+use Rattle.suites.proofs.suite.Suite.cipher_of.Statement.{statement}
+use Rattle.suites.proofs.suite.Suite.cipher_of.Tie as tie
 
 returns : tie.Need-returns
 returns c = simp (eq-eqb _ _ (c .if1 .taken))

@@ -2,7 +2,7 @@
 use crate::refusal::Refusal;
 use rounds::Cipher;
 ghost use mathlib.Core.Path.{_≡_};
-ghost use Rattle.cipher.specs.Suite.{listed, cipherOf, made};
+ghost use Rattle.suites.specs.Suite.{listed, cipherOf, made};
 
 // Any two bytes; `make` makes listed ones only.
 pub struct Suite {
@@ -48,7 +48,7 @@ impl Suite {
     }
 
     // The cipher of a listed suite; asked only where the suite is listed.
-    pub(crate) fn cipher_of(self) -> Cipher
+    pub fn cipher_of(self) -> Cipher
         ensures { λ r. ⌜ r ≡ cipherOf (self .cipher) ⌝ }
     {
         let c = self.cipher;
