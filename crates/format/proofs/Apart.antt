@@ -12,14 +12,14 @@ use Rattle.bits.specs.Bytes.{bigEndian}
 use Rattle.bits.proofs.BigEndian.{bigEndian-inj}
 use Rattle.calls.specs.Calls.{CipherCall}
 use Rattle.calls.proofs.Distinct.{tweaks-distinct, tweaks-apart}
-use Rattle.cipher.specs.declared.suite.Suite.{Suite}
-use Rattle.format.specs.Each.{Each, none, more}
-use Rattle.format.specs.Kind.{Kind, WellFormed}
+use Rattle.suites.specs.declared.suite.Suite.{Suite}
+use Rattle.fields.specs.Each.{Each, none, more}
+use Rattle.fields.specs.Kind.{Kind, WellFormed}
 use Rattle.format.specs.Sealings.{Sealing, nonceOf, unitSealing, closeSealing, unitSealings, sealingCalls, cipherCalls}
-use Rattle.format.specs.Unit.{BookUnit, Allowed}
-use Rattle.format.proofs.Details.{length-detailsOf}
+use Rattle.fields.specs.Unit.{BookUnit, Allowed}
+use Rattle.fields.proofs.Details.{length-detailsOf}
 use Rattle.format.proofs.Lengths.{length-openingFields, length-nonceOf, length-unitHeader, length-closeHeader, range-told}
-use Rattle.format.proofs.Texts.{length-unitText}
+use Rattle.fields.proofs.Texts.{length-unitText}
 
 -- a sealing under a book's nonce with the number n, in 4 bytes, far below the limits of header and text
 record Numbered (number n : ℕ) (s : Sealing) : Type 0 where

@@ -6,11 +6,11 @@ use native.Mathlib.Omega.{arith}
 use lib.ListN.{length, length-append}
 use Rattle.bits.specs.Bytes.{bigEndian}
 use Rattle.bits.proofs.BigEndian.{length-bigEndian, bigEndian-inj}
-use Rattle.cipher.specs.declared.suite.Suite.{Suite}
-use Rattle.format.specs.Field.{fieldHead, field}
-use Rattle.format.specs.Kind.{Kind, WellFormed, kind10}
+use Rattle.suites.specs.declared.suite.Suite.{Suite}
+use Rattle.fields.specs.Field.{fieldHead, field}
+use Rattle.fields.specs.Kind.{Kind, WellFormed, kind10}
 use Rattle.format.specs.Sealings.{openingFields, unitHeader, closeHeader}
-use Rattle.format.proofs.Fields.{append-inj, field-same}
+use Rattle.fields.proofs.Fields.{append-inj, field-same}
 
 pub kind10-wellFormed : WellFormed kind10
 kind10-wellFormed =

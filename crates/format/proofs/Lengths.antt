@@ -11,10 +11,10 @@ use Rattle.bits.proofs.BigEndian.{length-bigEndian}
 use Rattle.calls.specs.Calls.{CipherCall}
 use Rattle.calls.specs.Tweak.{blocksOf}
 use Rattle.calls.proofs.Distinct.{length-calls}
-use Rattle.cipher.specs.declared.suite.Suite.{Suite}
+use Rattle.suites.specs.declared.suite.Suite.{Suite}
 use Rattle.sealing.proofs.Sealed.{length-sealed}
-use Rattle.format.specs.Each.{Each, none, more}
-use Rattle.format.specs.Kind.{Kind}
+use Rattle.fields.specs.Each.{Each, none, more}
+use Rattle.fields.specs.Kind.{Kind}
 use Rattle.format.specs.Layout.{sealedFields, unitBytes, closeBytes, unitsBytes, bookBytes, unitLength, closeLength, bookLength}
 use Rattle.format.specs.Sealings.{
   Sealing,
@@ -30,10 +30,10 @@ use Rattle.format.specs.Sealings.{
   cipherCalls,
   callTotal,
 }
-use Rattle.format.specs.Unit.{BookUnit, Allowed, detailsOf, detailsLength, inRange, unitText}
-use Rattle.format.proofs.Details.{length-detailsOf}
-use Rattle.format.proofs.Fields.{length-field}
-use Rattle.format.proofs.Texts.{length-unitText}
+use Rattle.fields.specs.Unit.{BookUnit, Allowed, detailsOf, detailsLength, inRange, unitText}
+use Rattle.fields.proofs.Details.{length-detailsOf}
+use Rattle.fields.proofs.Fields.{length-field}
+use Rattle.fields.proofs.Texts.{length-unitText}
 
 -- fields and nonces
 

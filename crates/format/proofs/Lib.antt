@@ -1,9 +1,3 @@
-pub mod Each
-pub mod Reading
-pub mod Fields
-pub mod Texts
-pub mod Languages
-pub mod Details
 pub mod Headers
 pub mod Lengths
 pub mod Apart

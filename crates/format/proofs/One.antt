@@ -1,6 +1,7 @@
--- One string is the book of at most one suite, number and list of units.
+-- One string is the book of at most one suite, number and list of units; so is one that lacks the close.
 use mathlib.Core.Path.{_≡_, refl, sym, ap, _∙_}
-use mathlib.Core.List.{List, [], _∷_, _++_, append-assoc, append-nil}
+use mathlib.Core.Bool.{Bool, true, false, cond}
+use mathlib.Core.List.{List, [], _∷_, _++_, append-assoc, append-nil, cons≢nil}
 use Prim.Native.Nat.{ℕ, suc, _+_, _≤_, _<_}
 use native.Mathlib.Omega.{arith}
 use lib.ListN.{length, take, drop, length-drop, take-append-drop}
@@ -8,20 +9,20 @@ use lib.Seq.{length-take-le}
 use Rattle.bits.specs.Bytes.{Bytes, bigEndian}
 use Rattle.bits.proofs.BigEndian.{bytes-bigEndian}
 use Rattle.bits.proofs.Bytes.{bytes-append}
-use Rattle.cipher.specs.declared.suite.Suite.{Suite}
+use Rattle.suites.specs.declared.suite.Suite.{Suite}
 use Rattle.sealing.specs.Seal.{sealed}
-use Rattle.tae.proofs.Demand2.{image-one}
-use Rattle.format.specs.Each.{Each, none, more}
-use Rattle.format.specs.Field.{field}
-use Rattle.format.specs.Kind.{Kind, WellFormed}
+use Rattle.sealing.proofs.One.{sealed-one}
+use Rattle.fields.specs.Each.{Each, none, more}
+use Rattle.fields.specs.Field.{fieldHead, field}
+use Rattle.fields.specs.Kind.{Kind, WellFormed}
 use Rattle.format.specs.Layout.{sealedFields, unitBytes, closeBytes, unitsBytes, bookBytes, Bookable}
 use Rattle.format.specs.Sealings.{Sealing, openingFields, unitHeader, closeHeader, nonceOf, unitSealing, closeSealing, sealedBytes}
-use Rattle.format.specs.Unit.{BookUnit, Allowed, detailsOf, unitText}
-use Rattle.format.proofs.Fields.{field-same, field-inj}
+use Rattle.fields.specs.Unit.{BookUnit, Allowed, detailsOf, unitText}
+use Rattle.fields.proofs.Fields.{field-same, field-inj}
 use Rattle.format.proofs.Headers.{unitHeader-parts, unitHeader-no-close, openingFields-inj}
-use Rattle.format.proofs.Details.{length-detailsOf, unit-same}
-use Rattle.format.proofs.Lengths.{length-nonceOf, length-unitSealed, range-told}
-use Rattle.format.proofs.Texts.{length-unitText, bytes-unitText, unitText-inj}
+use Rattle.fields.proofs.Details.{length-detailsOf, unit-same}
+use Rattle.format.proofs.Lengths.{length-nonceOf, length-unitSealed, length-closeBytes, range-told}
+use Rattle.fields.proofs.Texts.{length-unitText, bytes-unitText, unitText-inj}
 
 pub bytes-nonceOf : (number n : ℕ) → Bytes (nonceOf number n)
 unfolding nonceOf
@@ -46,8 +47,7 @@ pub sealedBytes-inj : (suite : Suite) (key : List ℕ) → length key ≡ 16 →
     → sealedBytes suite key s₁ ≡ sealedBytes suite key s₂ → s₁ .text ≡ s₂ .text
 unfolding sealedBytes
 sealedBytes-inj suite key long bytes s₁ s₂ short nonce b₁ b₂ hn hh e =
-    image-one (record { cipher = suite .cipher; steps = suite .steps; key = key; nonce = s₁ .nonce; header = s₁ .header })
-    bytes nonce long short (s₁ .text) (s₂ .text) b₁ b₂
+    sealed-one suite key long bytes (s₁ .nonce) (s₁ .header) short nonce (s₁ .text) (s₂ .text) b₁ b₂
     (e ∙ (λ i. sealed (suite .cipher) (suite .steps) key (sym hn i) (sym hh i) (s₂ .text)))
 
 -- a unit's bytes never begin as a close's
@@ -59,6 +59,26 @@ unitBytes-no-close kind wf suite key number n m u r₁ r₂ e =
     let rest = sealedFields (length (unitText (u .source) (u .target))) (sealedBytes suite key (unitSealing kind suite number n u)) in
     let tag = field 0x12 (sealedBytes suite key (closeSealing kind suite number m)) in
     unitHeader-no-close kind n m wf (detailsOf kind u) (rest ++ r₁) (tag ++ r₂) (sym (append-assoc head rest r₁) ∙ e ∙ append-assoc (closeHeader kind m) tag r₂)
+
+-- what stands behind the last of n units: a close, or nothing
+module _ (kind : Kind) (suite : Suite) (key : List ℕ) (number : ℕ) where
+  abbrev end : Bool → ℕ → List ℕ
+  end closed n = cond closed (closeBytes kind suite key number n) []
+
+  -- strings that no unit's bytes begin: these two are such
+  abbrev NoUnit : List ℕ → Type 0
+  NoUnit s = (n : ℕ) (u : BookUnit) (r : List ℕ) → unitBytes kind suite key number n u ++ r ≡ s → ⊥
+
+  end-no-unit : WellFormed kind → (closed : Bool) (n : ℕ) → NoUnit (end closed n)
+  unfolding unitBytes unitHeader field fieldHead
+  end-no-unit wf true n m u r e = unitBytes-no-close kind wf suite key number m n u r [] (e ∙ sym (append-nil (closeBytes kind suite key number n)))
+  end-no-unit wf false n m u r e = cons≢nil e
+
+  end-one : (c₁ c₂ : Bool) (n₁ n₂ : ℕ) → end c₁ n₁ ≡ end c₂ n₂ → c₁ ≡ c₂
+  end-one true true n₁ n₂ e = refl
+  end-one false false n₁ n₂ e = refl
+  end-one true false n₁ n₂ e = absurd (omega (arith, ap length e, length-closeBytes kind suite key number n₁))
+  end-one false true n₁ n₂ e = absurd (omega (arith, ap length e, length-closeBytes kind suite key number n₂))
 
 module _ (kind : Kind) (suite : Suite) (key : List ℕ) (number : ℕ) (long : length key ≡ 16) (bytes : Bytes key) where
   -- units' bytes that begin one string are the same unit's
@@ -95,44 +115,39 @@ module _ (kind : Kind) (suite : Suite) (key : List ℕ) (number : ℕ) (long : l
       plain : (u : BookUnit) → Allowed kind u → Bytes (text u)
       plain u a = bytes-unitText (u .source) (u .target) (a .given .sourceBytes) (a .given .targetBytes)
 
-  -- what is left of a book from unit n on, with m units in all
-  abbrev left : ℕ → List BookUnit → ℕ → List ℕ
-  left n us m = unitsBytes kind suite key number n us ++ closeBytes kind suite key number m
-
-  left-more : (n m : ℕ) (u : BookUnit) (us : List BookUnit) → left n (u ∷ us) m ≡ unitBytes kind suite key number n u ++ left (suc n) us m
+  -- before strings that no unit's bytes begin stand the same units, and these strings are the same
+  units-one : (n : ℕ) {us₁ us₂ : List BookUnit} {r₁ r₂ : List ℕ} → NoUnit kind suite key number r₁ → NoUnit kind suite key number r₂
+      → Each (Allowed kind) us₁ → Each (Allowed kind) us₂
+      → unitsBytes kind suite key number n us₁ ++ r₁ ≡ unitsBytes kind suite key number n us₂ ++ r₂ → (us₁ ≡ us₂) × (r₁ ≡ r₂)
   unfolding unitsBytes
-  left-more n m u us = append-assoc (unitBytes kind suite key number n u) (unitsBytes kind suite key number (suc n) us) (closeBytes kind suite key number m)
+  units-one n no₁ no₂ none none e = (refl, e)
+  units-one n no₁ no₂ none (more {a = u} a each) e = absurd (no₁ n u _ (sym (append-assoc (unitBytes kind suite key number n u) _ _) ∙ sym e))
+  units-one n no₁ no₂ (more {a = u} a each) none e = absurd (no₂ n u _ (sym (append-assoc (unitBytes kind suite key number n u) _ _) ∙ e))
+  units-one n no₁ no₂ (more {a = u₁} a₁ each₁) (more {a = u₂} a₂ each₂) e =
+      let first = unitBytes-inj n a₁ a₂
+      (sym (append-assoc (unitBytes kind suite key number n u₁) _ _) ∙ e ∙ append-assoc (unitBytes kind suite key number n u₂) _ _) in
+      let rest = units-one (suc n) no₁ no₂ each₁ each₂ (first .1) in
+      (λ i. first .0 i ∷ rest .0 i, rest .1)
 
-  module _ (wf : WellFormed kind) where
-    -- a unit's bytes are not a close's
-    more-left : (n m₁ m₂ : ℕ) (u : BookUnit) (us : List BookUnit) → left n [] m₁ ≡ left n (u ∷ us) m₂ → ⊥
-    unfolding unitsBytes
-    more-left n m₁ m₂ u us e =
-        unitBytes-no-close kind wf suite key number n m₁ u (left (suc n) us m₂) []
-        (sym (left-more n m₂ u us) ∙ sym e ∙ sym (append-nil (closeBytes kind suite key number m₁)))
-
-    -- the units that are left are the same
-    units-one : (n m₁ m₂ : ℕ) {us₁ us₂ : List BookUnit} → Each (Allowed kind) us₁ → Each (Allowed kind) us₂ → left n us₁ m₁ ≡ left n us₂ m₂ → us₁ ≡ us₂
-    units-one n m₁ m₂ none none e = refl
-    units-one n m₁ m₂ none (more {a = u} {l = us} a each) e = absurd (more-left n m₁ m₂ u us e)
-    units-one n m₁ m₂ (more {a = u} {l = us} a each) none e = absurd (more-left n m₂ m₁ u us (sym e))
-    units-one n m₁ m₂ (more {a = u₁} {l = us₁} a₁ each₁) (more {a = u₂} {l = us₂} a₂ each₂) e =
-        let first : (u₁ ≡ u₂) × (left (suc n) us₁ m₁ ≡ left (suc n) us₂ m₂) =
-        unitBytes-inj n a₁ a₂ (sym (left-more n m₁ u₁ us₁) ∙ e ∙ left-more n m₂ u₂ us₂) in
-        λ i. first .0 i ∷ units-one (suc n) m₁ m₂ each₁ each₂ (first .1) i
+-- under one key, one string has one suite, book number and list of units, with a close or without
+pub laid-one : (kind : Kind) → WellFormed kind → {s₁ s₂ : Suite} {k₁ k₂ : List ℕ} {n₁ n₂ : ℕ} {us₁ us₂ : List BookUnit} (c₁ c₂ : Bool)
+    → Bookable kind s₁ k₁ n₁ us₁ → Bookable kind s₂ k₂ n₂ us₂ → k₁ ≡ k₂
+    → openingFields s₁ n₁ ++ (unitsBytes kind s₁ k₁ n₁ 0 us₁ ++ cond c₁ (closeBytes kind s₁ k₁ n₁ (length us₁)) [])
+    ≡ openingFields s₂ n₂ ++ (unitsBytes kind s₂ k₂ n₂ 0 us₂ ++ cond c₂ (closeBytes kind s₂ k₂ n₂ (length us₂)) [])
+    → (s₁ ≡ s₂) × (n₁ ≡ n₂) × (us₁ ≡ us₂) × (c₁ ≡ c₂)
+laid-one kind wf {s₁} {s₂} {k₁} {k₂} {n₁} {n₂} {us₁} {us₂} c₁ c₂ b₁ b₂ k e =
+    let start = openingFields-inj s₁ s₂ n₁ n₂ {r₁ = rest s₁ k₁ n₁ us₁ c₁} {r₂ = rest s₂ k₂ n₂ us₂ c₂} (b₁ .numberFits) (b₂ .numberFits) e in
+    let units = units-one kind s₁ k₁ n₁ (b₁ .keyLong) (b₁ .keyBytes) 0
+    (end-no-unit kind s₁ k₁ n₁ wf c₁ (length us₁)) (end-no-unit kind s₁ k₁ n₁ wf c₂ (length us₂)) (b₁ .units) (b₂ .units)
+    (start .2 ∙ (λ i. rest (sym (start .0) i) (sym k i) (sym (start .1) i) us₂ c₂)) in
+    (start .0, start .1, units .0, end-one kind s₁ k₁ n₁ c₁ c₂ (length us₁) (length us₂) (units .1))
+  where
+    rest : Suite → List ℕ → ℕ → List BookUnit → Bool → List ℕ
+    rest s k n us c = unitsBytes kind s k n 0 us ++ end kind s k n c (length us)
 
 -- one string is one book
 pub book-one : (kind : Kind) → WellFormed kind → {s₁ s₂ : Suite} {key : List ℕ} {n₁ n₂ : ℕ} {us₁ us₂ : List BookUnit}
     → Bookable kind s₁ key n₁ us₁ → Bookable kind s₂ key n₂ us₂ → bookBytes kind s₁ key n₁ us₁ ≡ bookBytes kind s₂ key n₂ us₂
     → (s₁ ≡ s₂) × (n₁ ≡ n₂) × (us₁ ≡ us₂)
 unfolding bookBytes
-book-one kind wf {s₁} {s₂} {key} {n₁} {n₂} {us₁} {us₂} b₁ b₂ e =
-    let start = openingFields-inj s₁ s₂ n₁ n₂ {r₁ = rest s₁ n₁ us₁} {r₂ = rest s₂ n₂ us₂} (b₁ .numberFits) (b₂ .numberFits) e in (
-      start .0,
-      start .1,
-      units-one kind s₁ key n₁ (b₁ .keyLong) (b₁ .keyBytes) wf 0 (length us₁) (length us₂) (b₁ .units) (b₂ .units)
-          (start .2 ∙ (λ i. rest (sym (start .0) i) (sym (start .1) i) us₂)),
-    )
-  where
-    rest : Suite → ℕ → List BookUnit → List ℕ
-    rest s n us = unitsBytes kind s key n 0 us ++ closeBytes kind s key n (length us)
+book-one kind wf b₁ b₂ e = let l = laid-one kind wf true true b₁ b₂ refl e in (l .0, l .1, l .2)

@@ -5,13 +5,13 @@ use mathlib.Core.List.{List, [], _∷_, _++_}
 use Prim.Native.Nat.{ℕ, suc, _+_, _^_, _≤_, _<_}
 use lib.ListN.{length, take, drop}
 use Rattle.bits.specs.Bytes.{Bytes}
-use Rattle.cipher.specs.declared.suite.Suite.{Suite}
-use Rattle.cipher.specs.Suite.{listed}
-use Rattle.format.specs.Each.{Each}
-use Rattle.format.specs.Field.{field}
-use Rattle.format.specs.Kind.{Kind}
+use Rattle.suites.specs.declared.suite.Suite.{Suite}
+use Rattle.suites.specs.Suite.{listed}
+use Rattle.fields.specs.Each.{Each}
+use Rattle.fields.specs.Field.{field}
+use Rattle.fields.specs.Kind.{Kind}
 use Rattle.format.specs.Sealings.{openingFields, unitHeader, closeHeader, unitSealing, closeSealing, sealedBytes}
-use Rattle.format.specs.Unit.{BookUnit, Allowed, detailsOf, detailsLength, unitText}
+use Rattle.fields.specs.Unit.{BookUnit, Allowed, detailsOf, detailsLength, unitText}
 
 -- "11 (ciphertext of 3 to 8,194 bytes), 12 (tag, 16)"; "fields 11 and 12 hold its ciphertext (none at a close) and its tag": of sealed
 -- bytes whose ciphertext has m

@@ -5,11 +5,11 @@ use lib.ListN.{length}
 use Rattle.bits.specs.Bytes.{bigEndian}
 use Rattle.calls.specs.Calls.{CipherCall, calls}
 use Rattle.calls.specs.Tweak.{blocksOf}
-use Rattle.cipher.specs.declared.suite.Suite.{Suite}
+use Rattle.suites.specs.declared.suite.Suite.{Suite}
 use Rattle.sealing.specs.Seal.{sealed}
-use Rattle.format.specs.Field.{field}
-use Rattle.format.specs.Kind.{Kind}
-use Rattle.format.specs.Unit.{BookUnit, detailsOf, unitText}
+use Rattle.fields.specs.Field.{field}
+use Rattle.fields.specs.Kind.{Kind}
+use Rattle.fields.specs.Unit.{BookUnit, detailsOf, unitText}
 
 -- "A book: 01 (8 bytes, book number), 02 (suite), units, close."
 unfoldable pub openingFields : Suite → ℕ → List ℕ

@@ -1,8 +1,8 @@
 // Opening fields, headers of units and close, and nonces.
-use cipher::suite::Suite;
+use suites::suite::Suite;
 ghost use mathlib.Core.Path.{_≡_};
 ghost use mathlib.Core.List.{_++_};
-ghost use Rattle.format.specs.Kind.{writerKind};
+ghost use Rattle.fields.specs.Kind.{writerKind};
 ghost use Rattle.format.specs.Sealings.{openingFields, unitHeader, closeHeader, nonceOf};
 
 // The fields 01 and 02.

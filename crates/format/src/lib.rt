@@ -1,6 +1,3 @@
-// A book's format: fields, languages, texts of units, and what is sealed along with them.
+// A book's format: opening fields, headers, nonces, and what is sealed along.
 mod bytes;
-pub mod field;
 pub mod layout;
-pub mod number;
-pub mod unit;

@@ -7,14 +7,14 @@ use native.Mathlib.Omega.{arith}
 use lib.ListN.{length, take, drop, length-append, length-drop, take-append-drop}
 use lib.Seq.{take-all, take-at, drop-at, take-append-le, drop-append-le, length-take-le}
 use Rattle.calls.specs.Calls.{calls}
-use Rattle.cipher.specs.declared.refusal.Answer.{Answer}
-use Rattle.cipher.specs.declared.refusal.Answer.the-variants.{Done}
-use Rattle.cipher.specs.declared.suite.Suite.{Suite}
+use Rattle.suites.specs.declared.refusal.Answer.{Answer}
+use Rattle.suites.specs.declared.refusal.Answer.the-variants.{Done}
+use Rattle.suites.specs.declared.suite.Suite.{Suite}
 use Rattle.limits.specs.Limits.{headerLimit, textLimit}
 use Rattle.limits.proofs.Passed.{seal-passes}
 use Rattle.sealing.specs.declared.seal.SealAnswer.{SealAnswer}
 use Rattle.sealing.specs.Seal.{sealed, written, sealReport, inPlaceOutcome, inPlaceAnswer, inPlaceBuffer}
-use Rattle.format.specs.Field.{fieldHead, field}
+use Rattle.fields.specs.Field.{fieldHead, field}
 use Rattle.format.specs.Layout.{sealedFields}
 use Rattle.format.specs.Sealings.{Sealing, openingFields, sealedBytes, sealingCalls}
 use Rattle.sealing.proofs.Sealed.{length-sealed}

@@ -4,9 +4,9 @@ use mathlib.Core.Bool.{true}
 use mathlib.Core.List.{List, _++_}
 use Prim.Native.Nat.{ℕ, _^_, _≤_}
 use lib.ListN.{length, take, drop}
-use Rattle.cipher.specs.declared.suite.Suite.{Suite}
-use Rattle.cipher.specs.Suite.{listed}
-use Rattle.format.specs.Field.{field}
+use Rattle.suites.specs.declared.suite.Suite.{Suite}
+use Rattle.suites.specs.Suite.{listed}
+use Rattle.fields.specs.Field.{field}
 use Rattle.sealing.specs.declared.seal.SealAnswer.{SealAnswer}
 use Rattle.sealing.specs.declared.seal.SealAnswer.the-variants.{Sealed, Refused}
 

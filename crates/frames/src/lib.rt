@@ -1,18 +1,18 @@
 // A unit and a close, put where a part of the buffer starts. Each public function serves the writer, which has tested what it asks.
-use cipher::suite::Suite;
 use sealing::seal::SealAnswer;
+use suites::suite::Suite;
 ghost use mathlib.Core.Bool.{true};
 ghost use mathlib.Core.Path.{_≡_};
 ghost use mathlib.Core.List.{_++_};
 ghost use Prim.Native.Nat.{_+_, _≤_};
 ghost use lib.ListN.{length, take, drop};
 ghost use Rattle.calls.specs.Calls.{calls};
-ghost use Rattle.cipher.specs.Suite.{listed};
-ghost use Rattle.format.specs.Field.{field};
-ghost use Rattle.format.specs.Kind.{writerKind};
+ghost use Rattle.suites.specs.Suite.{listed};
+ghost use Rattle.fields.specs.Field.{field};
+ghost use Rattle.fields.specs.Kind.{writerKind};
 ghost use Rattle.format.specs.Layout.{sealedFields, unitBytes, closeBytes, unitLength, closeLength};
 ghost use Rattle.format.specs.Sealings.{unitSealing, closeSealing, sealingCalls};
-ghost use Rattle.format.specs.Unit.{unitOf, unitText, inRange};
+ghost use Rattle.fields.specs.Unit.{unitOf, unitText, inRange};
 ghost use Rattle.sealing.specs.Seal.{sealed};
 ghost use Rattle.frames.specs.Parts.{callCount, Within, tagApart};
 
@@ -33,7 +33,7 @@ fn put_text(source: &[u8], target: &[u8], out: &mut [u8])
 {
     let s = source.len();
     let n = 2 + s;
-    format::number::put(s as u64, &mut out[..2]);
+    fields::number::put(s as u64, &mut out[..2]);
     sums::copy(source, &mut out[2..]);
     sums::copy(target, &mut out[n..]);
 }
@@ -44,7 +44,7 @@ fn put_tag(out: &mut [u8])
     ensures { λ r. ⌜ now (out .exit) ≡ field 0x12 (take 16 (now (out .entry))) ++ drop 19 (now (out .entry)) ⌝ }
 {
     let tag = blockwise::block_at(out, 0);
-    let head = format::field::head(0x12, 16);
+    let head = fields::field::head(0x12, 16);
     sums::copy(&head, out);
     blockwise::put_at(out, 3, tag);
 }
@@ -81,7 +81,7 @@ fn put_sealed(
 {
     let m = 2 + (source.len() + target.len());
     put_text(source, target, &mut out[3..]);
-    let head = format::field::head(0x11, m);
+    let head = fields::field::head(0x11, m);
     sums::copy(&head, out);
     seal_here(suite, key, nonce, header, m, &mut out[3..])
 }

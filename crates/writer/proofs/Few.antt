@@ -3,12 +3,12 @@ use mathlib.Core.Path.{_≡_}
 use Prim.Native.Nat.{ℕ, _≤_}
 use native.Mathlib.Omega.{arith}
 use lib.ListN.{length, length-append}
-use Rattle.cipher.specs.declared.suite.Suite.{Suite}
-use Rattle.format.specs.Kind.{Kind, WellFormed}
+use Rattle.suites.specs.declared.suite.Suite.{Suite}
+use Rattle.fields.specs.Kind.{Kind, WellFormed}
 use Rattle.format.specs.Sealings.{openingFields, unitHeader, closeHeader, unitSealing, closeSealing, sealingCalls}
-use Rattle.format.specs.Unit.{BookUnit, detailsOf, detailsLength}
+use Rattle.fields.specs.Unit.{BookUnit, detailsOf, detailsLength}
 use Rattle.format.proofs.Lengths.{length-openingFields, length-unitHeader, length-closeHeader, length-sealingCalls}
-use Rattle.format.proofs.Texts.{length-unitText}
+use Rattle.fields.proofs.Texts.{length-unitText}
 
 module _ (kind : Kind) (formed : WellFormed kind) (suite : Suite) (number n : ℕ) where
   pub unit-calls : (u : BookUnit) → length (detailsOf kind u) ≡ detailsLength kind → length (u .source) ≤ 4096 → length (u .target) ≤ 4096

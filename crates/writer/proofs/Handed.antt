@@ -3,12 +3,12 @@ use mathlib.Core.Path.{_≡_, sym, ap}
 use mathlib.Core.List.{List}
 use Prim.Native.Nat.{ℕ}
 use lib.ListN.{length}
-use Rattle.cipher.specs.declared.refusal.Answer.{Answer}
-use Rattle.cipher.specs.declared.suite.Suite.{Suite}
-use Rattle.format.specs.Kind.{Kind}
+use Rattle.suites.specs.declared.refusal.Answer.{Answer}
+use Rattle.suites.specs.declared.suite.Suite.{Suite}
+use Rattle.fields.specs.Kind.{Kind}
 use Rattle.format.specs.Layout.{unitBytes, closeBytes}
 use Rattle.format.specs.Sealings.{openingFields}
-use Rattle.format.specs.Unit.{BookUnit}
+use Rattle.fields.specs.Unit.{BookUnit}
 use Rattle.writer.specs.declared.Writer.{Writer}
 use Rattle.writer.specs.Writer.{
   putAt,

@@ -7,15 +7,15 @@ use native.Mathlib.Nat.{zero-add}
 use native.Mathlib.Omega.{arith}
 use lib.ListN.{length, take, drop, length-append}
 use lib.Seq.{drop-drop, length-take-le}
-use Rattle.cipher.specs.declared.refusal.Answer.{Answer}
-use Rattle.cipher.specs.declared.refusal.Answer.the-variants.{Done, Refused}
-use Rattle.cipher.specs.Suite.{listed}
-use Rattle.format.specs.Each.{Each, none, more}
-use Rattle.format.specs.Kind.{Kind, WellFormed}
+use Rattle.suites.specs.declared.refusal.Answer.{Answer}
+use Rattle.suites.specs.declared.refusal.Answer.the-variants.{Done, Refused}
+use Rattle.suites.specs.Suite.{listed}
+use Rattle.fields.specs.Each.{Each, none, more}
+use Rattle.fields.specs.Kind.{Kind, WellFormed}
 use Rattle.format.specs.Layout.{unitBytes, closeBytes, unitsBytes, unitLength, closeLength, bookLength}
 use Rattle.format.specs.Sealings.{Sealing, openingFields, unitSealing, closeSealing, unitSealings, sealingCalls, callTotal}
-use Rattle.format.specs.Unit.{BookUnit, Given, Allowed}
-use Rattle.format.proofs.Each.{each-append}
+use Rattle.fields.specs.Unit.{BookUnit, Given, Allowed}
+use Rattle.fields.proofs.Each.{each-append}
 use Rattle.format.proofs.Lengths.{
   length-openingFields,
   length-unitBytes,
@@ -65,7 +65,7 @@ use Rattle.writer.specs.History.{
   started,
 }
 use Rattle.writer.specs.Left.{laidOut, sealedOf, Leaves, writing, WriterHalf}
-use Rattle.format.proofs.Details.{length-detailsOf}
+use Rattle.fields.proofs.Details.{length-detailsOf}
 use Rattle.writer.proofs.Few.{unit-calls}
 use Rattle.writer.proofs.Passed.{start-passed, Valid, add-passed, add-passes, close-passed, close-passes}
 use Rattle.writer.proofs.Put.{take-put, drop-put, length-put}

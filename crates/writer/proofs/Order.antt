@@ -2,12 +2,12 @@
 use mathlib.Core.Path.{_≡_, refl, ap}
 use mathlib.Core.Bool.{Bool, true, false, not}
 use Prim.Native.Nat.{ℕ}
-use Rattle.cipher.specs.declared.refusal.Answer.{Answer}
-use Rattle.cipher.specs.declared.refusal.Answer.the-variants.{Done, Refused}
-use Rattle.cipher.specs.declared.refusal.Refusal.{Refusal}
-use Rattle.cipher.specs.declared.refusal.Refusal.the-variants.{WriterInvalid, WriterClosed}
+use Rattle.suites.specs.declared.refusal.Answer.{Answer}
+use Rattle.suites.specs.declared.refusal.Answer.the-variants.{Done, Refused}
+use Rattle.suites.specs.declared.refusal.Refusal.{Refusal}
+use Rattle.suites.specs.declared.refusal.Refusal.the-variants.{WriterInvalid, WriterClosed}
 use Rattle.limits.specs.Tests.{unless}
-use Rattle.format.specs.Kind.{Kind}
+use Rattle.fields.specs.Kind.{Kind}
 use Rattle.writer.specs.declared.Writer.{Writer}
 use Rattle.writer.specs.Writer.{byAnswer, valid, writerTests}
 

@@ -3,11 +3,11 @@ use mathlib.Core.Path.{_≡_, refl, ap}
 use mathlib.Core.Bool.{true, false, not, and-eq-true-iff}
 use mathlib.Core.List.{List}
 use Prim.Native.Nat.{ℕ, _+_, _*_, _≤_, _<_}
-use borrow.Author.Tests.{ltb-true, leb-true, eqb-true, not-true, lt-ltb, le-leb}
+use borrow.Author.Tests.{ltb-true, leb-true, eqb-true, not-true, lt-ltb, le-leb, eq-eqb}
 use lib.Dec.{eqb, leb, ltb}
-use Rattle.cipher.specs.declared.refusal.Answer.{Answer}
-use Rattle.cipher.specs.declared.refusal.Answer.the-variants.{Done}
-use Rattle.cipher.specs.declared.refusal.Refusal.the-variants.{
+use Rattle.suites.specs.declared.refusal.Answer.{Answer}
+use Rattle.suites.specs.declared.refusal.Answer.the-variants.{Done}
+use Rattle.suites.specs.declared.refusal.Refusal.the-variants.{
   SuiteNotListed,
   KeyLength,
   OutputTooShort,
@@ -17,13 +17,13 @@ use Rattle.cipher.specs.declared.refusal.Refusal.the-variants.{
   SegmentLength,
   TooManyUnits,
 }
-use Rattle.cipher.specs.declared.suite.Suite.{Suite}
-use Rattle.cipher.specs.Suite.{listed}
+use Rattle.suites.specs.declared.suite.Suite.{Suite}
+use Rattle.suites.specs.Suite.{listed}
 use Rattle.limits.proofs.Passed.{unless-passed, unless-passes}
-use Rattle.format.specs.Kind.{Kind}
-use Rattle.format.specs.Languages.{pairAllowed}
+use Rattle.fields.specs.Kind.{Kind}
+use Rattle.fields.specs.Languages.{pairAllowed}
 use Rattle.format.specs.Layout.{unitLength, closeLength}
-use Rattle.format.specs.Unit.{inRange}
+use Rattle.fields.specs.Unit.{inRange}
 use Rattle.format.proofs.Lengths.{range-told}
 use Rattle.writer.specs.declared.Writer.{Writer}
 use Rattle.writer.specs.Writer.{startOutcome, valid, writerTests, addTests, closeOutcome}
@@ -41,6 +41,10 @@ start-passed suite k room e =
     let key = unless-passed (eqb k 16) KeyLength _ (listed .1) in
     let enough = unless-passed (leb 16 room) OutputTooShort Done (key .1) in
     record { listedSuite = listed .0; key = eqb-true k 16 (key .0); enough = leb-true 16 room (enough .0) }
+
+pub start-passes : (suite : Suite) (k room : ℕ) → Startable suite k room → startOutcome suite k room ≡ Done
+unfolding startOutcome
+start-passes suite k room s = simp (s .listedSuite, eq-eqb k 16 (s .key), le-leb 16 room (s .enough))
 
 -- a writer that is valid over a buffer of room bytes
 pub record Valid (kind : Kind) (w : Writer) (room : ℕ) : Type 0 where

@@ -6,12 +6,12 @@ use mathlib.Core.List.{List, [], _∷_, _++_}
 use Prim.Native.Nat.{ℕ, _^_, _<_}
 use lib.ListN.{length}
 use Rattle.bits.specs.Bytes.{Bytes}
-use Rattle.cipher.specs.declared.refusal.Answer.{Answer}
-use Rattle.cipher.specs.declared.refusal.Answer.the-variants.{Done}
-use Rattle.cipher.specs.declared.suite.Suite.{Suite}
-use Rattle.format.specs.Kind.{Kind}
+use Rattle.suites.specs.declared.refusal.Answer.{Answer}
+use Rattle.suites.specs.declared.refusal.Answer.the-variants.{Done}
+use Rattle.suites.specs.declared.suite.Suite.{Suite}
+use Rattle.fields.specs.Kind.{Kind}
 use Rattle.format.specs.Sealings.{Sealing, unitSealing, closeSealing}
-use Rattle.format.specs.Unit.{BookUnit, Given}
+use Rattle.fields.specs.Unit.{BookUnit, Given}
 use Rattle.writer.specs.declared.Writer.{Writer}
 use Rattle.writer.specs.Writer.{byAnswer, startOutcome, startWriter, startBuffer, addOutcome, addWriter, addBuffer, closeOutcome, closeWriter, closeBuffer}
 
@@ -80,6 +80,7 @@ pub record Start : Type 0 where
   pub number : ℕ
   pub buffer : List ℕ
   pub keyBytes : Bytes key
+  pub bufferBytes : Bytes buffer
   pub numberFits : number < 2 ^ 64
   pub accepted : startOutcome suite (length key) (length buffer) ≡ Done
 

@@ -5,11 +5,11 @@ use mathlib.Core.Bool.{Bool, true, cond}
 use mathlib.Core.List.{List, [], _∷_, _++_, map, List·Nodup}
 use Prim.Native.Nat.{ℕ, _≤_}
 use lib.ListN.{length, take, drop}
-use Rattle.format.specs.Each.{Each}
-use Rattle.format.specs.Kind.{Kind, WellFormed}
+use Rattle.fields.specs.Each.{Each}
+use Rattle.fields.specs.Kind.{Kind, WellFormed}
 use Rattle.format.specs.Layout.{unitsBytes, closeBytes, bookLength, Bookable}
 use Rattle.format.specs.Sealings.{Sealing, openingFields, unitSealings, closeSealing, cipherCalls, callTotal}
-use Rattle.format.specs.Unit.{BookUnit, Allowed}
+use Rattle.fields.specs.Unit.{BookUnit, Allowed}
 use Rattle.writer.specs.History.{Call, add, close, Callable, State, Start, started, run, units, hasClose, sealings}
 
 -- "Before the writer's place stand fields 01 and 02, the unit of each accepted add in order, then an accepted close": under what the

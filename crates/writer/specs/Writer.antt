@@ -6,9 +6,9 @@ use mathlib.Core.List.{List, _++_}
 use Prim.Native.Nat.{ℕ, _+_, _*_}
 use lib.Dec.{eqb, leb, ltb}
 use lib.ListN.{length, take, drop, replicate}
-use Rattle.cipher.specs.declared.refusal.Answer.{Answer}
-use Rattle.cipher.specs.declared.refusal.Answer.the-variants.{Done, Refused}
-use Rattle.cipher.specs.declared.refusal.Refusal.the-variants.{
+use Rattle.suites.specs.declared.refusal.Answer.{Answer}
+use Rattle.suites.specs.declared.refusal.Answer.the-variants.{Done, Refused}
+use Rattle.suites.specs.declared.refusal.Refusal.the-variants.{
   SuiteNotListed,
   KeyLength,
   OutputTooShort,
@@ -18,14 +18,14 @@ use Rattle.cipher.specs.declared.refusal.Refusal.the-variants.{
   SegmentLength,
   TooManyUnits,
 }
-use Rattle.cipher.specs.declared.suite.Suite.{Suite}
-use Rattle.cipher.specs.Suite.{listed}
+use Rattle.suites.specs.declared.suite.Suite.{Suite}
+use Rattle.suites.specs.Suite.{listed}
 use Rattle.limits.specs.Tests.{unless}
-use Rattle.format.specs.Kind.{Kind}
-use Rattle.format.specs.Languages.{pairAllowed}
+use Rattle.fields.specs.Kind.{Kind}
+use Rattle.fields.specs.Languages.{pairAllowed}
 use Rattle.format.specs.Layout.{unitBytes, closeBytes, unitLength, closeLength}
 use Rattle.format.specs.Sealings.{openingFields, unitSealing, closeSealing, sealingCalls}
-use Rattle.format.specs.Unit.{BookUnit, inRange}
+use Rattle.fields.specs.Unit.{BookUnit, inRange}
 use Rattle.writer.specs.declared.Writer.{Writer}
 
 -- bytes written at a place of the buffer; "other bytes stay"

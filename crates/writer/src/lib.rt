@@ -1,10 +1,10 @@
 // The writer of a book: start, add and close.
-use cipher::refusal::Answer;
-use cipher::suite::Suite;
+use suites::refusal::Answer;
+use suites::suite::Suite;
 ghost use mathlib.Core.Path.{_≡_};
 ghost use lib.ListN.{length};
-ghost use Rattle.format.specs.Kind.{writerKind};
-ghost use Rattle.format.specs.Unit.{unitOf};
+ghost use Rattle.fields.specs.Kind.{writerKind};
+ghost use Rattle.fields.specs.Unit.{unitOf};
 ghost use Rattle.writer.specs.Writer.{noWriter, startOutcome, startWriter, startBuffer, addOutcome, addWriter, addBuffer, closeOutcome, closeWriter, closeBuffer};
 
 mod tests;

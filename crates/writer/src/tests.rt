@@ -1,12 +1,12 @@
 // The refusals of start, add and close, in their order.
 use crate::Writer;
-use cipher::refusal::Answer;
-use cipher::refusal::Refusal;
-use cipher::suite::Suite;
+use suites::refusal::Answer;
+use suites::refusal::Refusal;
+use suites::suite::Suite;
 ghost use mathlib.Core.Bool.{cond};
 ghost use mathlib.Core.Path.{_≡_};
-ghost use Rattle.cipher.specs.declared.refusal.Answer.the-variants.{Done};
-ghost use Rattle.format.specs.Kind.{writerKind};
+ghost use Rattle.suites.specs.declared.refusal.Answer.the-variants.{Done};
+ghost use Rattle.fields.specs.Kind.{writerKind};
 ghost use Rattle.writer.specs.Writer.{valid, startOutcome, writerTests, addTests, closeOutcome};
 
 pub(crate) fn start_tests(suite: Suite, key: usize, room: usize) -> Answer
@@ -67,10 +67,10 @@ pub(crate) fn add_tests(
     match tested {
         Answer::Refused(why) => Answer::Refused(why),
         Answer::Done => {
-            if !format::unit::is_pair(from, to) {
+            if !fields::unit::is_pair(from, to) {
                 return Answer::Refused(Refusal::LanguagesNotAllowed);
             }
-            if !format::unit::in_range(s, t) {
+            if !fields::unit::in_range(s, t) {
                 return Answer::Refused(Refusal::SegmentLength);
             }
             if count == 65535 {

@@ -1,5 +1,5 @@
 // The writer as 64 bytes.
-use cipher::suite::Suite;
+use suites::suite::Suite;
 use writer::Writer;
 ghost use mathlib.Core.Bool.{cond};
 ghost use mathlib.Core.Path.{_≡_};
@@ -14,10 +14,10 @@ pub fn from_bytes(b: [u8; 64]) -> Writer
         steps: b[1],
     };
     let key = blockwise::block_at(&b, 16);
-    let number = format::number::of(&b[8..16]);
-    let place = format::number::of(&b[32..40]);
-    let count = format::number::of(&b[40..48]);
-    let total = format::number::of(&b[48..56]);
+    let number = fields::number::of(&b[8..16]);
+    let place = fields::number::of(&b[32..40]);
+    let count = fields::number::of(&b[40..48]);
+    let total = fields::number::of(&b[48..56]);
     let closed = b[2] != 1;
     Writer {
         suite,
@@ -50,10 +50,10 @@ pub fn to_bytes(w: Writer) -> [u8; 64]
     b[0] = suite.cipher;
     b[1] = suite.steps;
     b[2] = flag(w.closed);
-    format::number::put(w.number, &mut b[8..16]);
+    fields::number::put(w.number, &mut b[8..16]);
     blockwise::put_at(&mut b, 16, key);
-    format::number::put(w.place as u64, &mut b[32..40]);
-    format::number::put(w.count, &mut b[40..48]);
-    format::number::put(w.total, &mut b[48..56]);
+    fields::number::put(w.place as u64, &mut b[32..40]);
+    fields::number::put(w.count, &mut b[40..48]);
+    fields::number::put(w.total, &mut b[48..56]);
     b
 }

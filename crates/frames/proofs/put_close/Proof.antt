@@ -6,7 +6,7 @@ use native.Mathlib.Omega.{arith}
 use borrow.Author.Needs.{needs}
 use lib.ListN.{length, take, drop}
 use Rattle.sealing.specs.Seal.{sealed}
-use Rattle.format.specs.Kind.{writerKind}
+use Rattle.fields.specs.Kind.{writerKind}
 use Rattle.format.specs.Layout.{closeBytes}
 use Rattle.format.specs.Sealings.{Sealing, closeHeader, closeSealing}
 use Rattle.frames.specs.Parts.{tagApart}

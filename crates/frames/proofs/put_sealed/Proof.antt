@@ -8,11 +8,11 @@ use lib.ListN.{length, take, drop, length-append, take-append-drop}
 use lib.Seq.{take-at, drop-at, length-take-le}
 use Rattle.calls.specs.Calls.{calls}
 use Rattle.sealing.specs.Seal.{sealed}
-use Rattle.format.specs.Field.{fieldHead}
+use Rattle.fields.specs.Field.{fieldHead}
 use Rattle.format.specs.Layout.{sealedFields}
-use Rattle.format.specs.Unit.{unitText}
-use Rattle.format.proofs.Fields.{length-fieldHead}
-use Rattle.format.proofs.Texts.{length-unitText}
+use Rattle.fields.specs.Unit.{unitText}
+use Rattle.fields.proofs.Fields.{length-fieldHead}
+use Rattle.fields.proofs.Texts.{length-unitText}
 use Rattle.frames.specs.Parts.{tagApart}
 use Rattle.frames.proofs.Behind.{copied, later, of-part, behind}
 use Rattle.sealing.proofs.Sealed.{length-sealed}

@@ -8,7 +8,7 @@ use lib.ListN.{length, take, drop, length-append}
 use lib.Seq.{length-take-le}
 use Rattle.bits.specs.Bytes.{bigEndian}
 use Rattle.bits.proofs.BigEndian.{length-bigEndian}
-use Rattle.format.specs.Unit.{unitText}
+use Rattle.fields.specs.Unit.{unitText}
 use Rattle.frames.proofs.Behind.{behind}
 use Rattle.frames.proofs.put_text.Statement.{statement}
 use Rattle.frames.proofs.put_text.Tie as tie

@@ -6,10 +6,10 @@ use native.Mathlib.Omega.{arith}
 use borrow.Author.Needs.{needs}
 use lib.ListN.{length, take, drop}
 use Rattle.sealing.specs.Seal.{sealed}
-use Rattle.format.specs.Kind.{writerKind}
+use Rattle.fields.specs.Kind.{writerKind}
 use Rattle.format.specs.Layout.{sealedFields, unitBytes}
 use Rattle.format.specs.Sealings.{Sealing, unitHeader, unitSealing}
-use Rattle.format.specs.Unit.{unitOf, unitText, detailsOf}
+use Rattle.fields.specs.Unit.{unitOf, unitText, detailsOf}
 use Rattle.format.proofs.Lengths.{range-told}
 use Rattle.frames.proofs.Behind.{copied, behind}
 use Rattle.frames.proofs.Sealed.{length-head, head-behind, calls-are, sealed-are}

@@ -6,7 +6,7 @@ use native.Mathlib.Omega.{arith}
 use borrow.Author.Needs.{needs}
 use lib.ListN.{length, take, drop, length-append, length-drop}
 use lib.Seq.{take-append-seam}
-use Rattle.format.proofs.Reading.{joined}
+use Rattle.fields.proofs.Reading.{joined}
 use Rattle.format.proofs.bytes.join.Statement.{statement}
 use Rattle.format.proofs.bytes.join.Tie as tie
 

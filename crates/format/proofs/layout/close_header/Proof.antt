@@ -2,7 +2,7 @@
 use mathlib.Core.Path.{refl}
 use borrow.Author.Needs.{needs}
 use Rattle.bits.specs.Bytes.{bigEndian}
-use Rattle.format.specs.Field.{field, fieldHead}
+use Rattle.fields.specs.Field.{field, fieldHead}
 use Rattle.format.specs.Sealings.{closeHeader}
 use Rattle.format.proofs.layout.close_header.Statement.{statement}
 use Rattle.format.proofs.layout.close_header.Tie as tie

@@ -4,8 +4,8 @@ use mathlib.Core.List.{_++_}
 use borrow.Author.Needs.{needs}
 use Rattle.bits.specs.Bytes.{bigEndian}
 use Rattle.bits.proofs.Lists.{tab-getD}
-use Rattle.format.specs.Field.{field, fieldHead}
-use Rattle.format.specs.Kind.{writerKind}
+use Rattle.fields.specs.Field.{field, fieldHead}
+use Rattle.fields.specs.Kind.{writerKind}
 use Rattle.format.specs.Sealings.{unitHeader}
 use Rattle.format.proofs.layout.unit_header.Statement.{statement}
 use Rattle.format.proofs.layout.unit_header.Tie as tie

@@ -4,11 +4,11 @@ use Prim.Native.Nat.{_+_}
 use native.Mathlib.Omega.{arith}
 use borrow.Author.Needs.{needs}
 use lib.ListN.{length, length-drop}
-use Rattle.cipher.specs.declared.refusal.Answer.the-variants.{Done, Refused}
-use Rattle.format.specs.Kind.{writerKind}
+use Rattle.suites.specs.declared.refusal.Answer.the-variants.{Done, Refused}
+use Rattle.fields.specs.Kind.{writerKind}
 use Rattle.format.specs.Layout.{unitBytes, unitLength}
-use Rattle.format.specs.Unit.{BookUnit, unitOf, detailsOf, detailsLength}
-use Rattle.format.proofs.Details.{length-codes}
+use Rattle.fields.specs.Unit.{BookUnit, unitOf, detailsOf, detailsLength}
+use Rattle.fields.proofs.Details.{length-codes}
 use Rattle.format.proofs.Headers.{kind10-wellFormed}
 use Rattle.format.proofs.Lengths.{length-unitBytes}
 use Rattle.sums.proofs.Sums.{part-rest}

@@ -5,8 +5,8 @@ use Prim.Native.Nat.{_+_}
 use native.Mathlib.Omega.{arith}
 use borrow.Author.Needs.{needs}
 use lib.ListN.{length, length-drop}
-use Rattle.cipher.specs.declared.refusal.Answer.the-variants.{Done}
-use Rattle.format.specs.Kind.{writerKind}
+use Rattle.suites.specs.declared.refusal.Answer.the-variants.{Done}
+use Rattle.fields.specs.Kind.{writerKind}
 use Rattle.format.specs.Layout.{closeBytes, closeLength}
 use Rattle.format.proofs.Headers.{kind10-wellFormed}
 use Rattle.format.proofs.Lengths.{length-closeBytes}

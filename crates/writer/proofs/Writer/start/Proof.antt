@@ -7,7 +7,7 @@ use native.Mathlib.Omega.{arith}
 use borrow.Author.Needs.{needs}
 use lib.ListN.{length, drop}
 use lib.Seq.{take-all}
-use Rattle.cipher.specs.declared.refusal.Answer.the-variants.{Done}
+use Rattle.suites.specs.declared.refusal.Answer.the-variants.{Done}
 use Rattle.format.specs.Sealings.{openingFields}
 use Rattle.format.proofs.Lengths.{length-openingFields}
 use Rattle.writer.specs.Writer.{startOutcome, newWriter}

@@ -5,14 +5,14 @@ use native.Mathlib.Omega.{arith}
 use borrow.Author.Needs.{needs}
 use borrow.Author.Tests.{not-true, not-false, lt-ltb, le-ltb, le-leb, lt-leb}
 use lib.Dec.{leb, ltb}
-use Rattle.cipher.specs.declared.refusal.Answer.{Answer}
-use Rattle.cipher.specs.declared.refusal.Answer.the-variants.{Done}
-use Rattle.cipher.specs.declared.refusal.Refusal.the-variants.{LanguagesNotAllowed, SegmentLength, TooManyUnits, OutputTooShort}
+use Rattle.suites.specs.declared.refusal.Answer.{Answer}
+use Rattle.suites.specs.declared.refusal.Answer.the-variants.{Done}
+use Rattle.suites.specs.declared.refusal.Refusal.the-variants.{LanguagesNotAllowed, SegmentLength, TooManyUnits, OutputTooShort}
 use Rattle.limits.specs.Tests.{unless}
-use Rattle.format.specs.Kind.{writerKind}
-use Rattle.format.specs.Languages.{pairAllowed}
+use Rattle.fields.specs.Kind.{writerKind}
+use Rattle.fields.specs.Languages.{pairAllowed}
 use Rattle.format.specs.Layout.{unitLength}
-use Rattle.format.specs.Unit.{inRange}
+use Rattle.fields.specs.Unit.{inRange}
 use Rattle.format.proofs.Lengths.{range-told}
 use Rattle.writer.specs.Writer.{byAnswer, writerTests, addTests}
 use Rattle.writer.proofs.Order.{passes, refuses, writer-first}

@@ -5,11 +5,11 @@ use native.Mathlib.Omega.{arith}
 use borrow.Author.Needs.{needs}
 use borrow.Author.Tests.{le-leb, lt-leb}
 use lib.Dec.{leb}
-use Rattle.cipher.specs.declared.refusal.Answer.{Answer}
-use Rattle.cipher.specs.declared.refusal.Answer.the-variants.{Done}
-use Rattle.cipher.specs.declared.refusal.Refusal.the-variants.{OutputTooShort}
+use Rattle.suites.specs.declared.refusal.Answer.{Answer}
+use Rattle.suites.specs.declared.refusal.Answer.the-variants.{Done}
+use Rattle.suites.specs.declared.refusal.Refusal.the-variants.{OutputTooShort}
 use Rattle.limits.specs.Tests.{unless}
-use Rattle.format.specs.Kind.{writerKind}
+use Rattle.fields.specs.Kind.{writerKind}
 use Rattle.format.specs.Layout.{closeLength}
 use Rattle.writer.specs.Writer.{byAnswer, writerTests, closeOutcome}
 use Rattle.writer.proofs.Order.{passes, refuses, writer-first}

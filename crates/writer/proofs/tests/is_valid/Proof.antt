@@ -5,7 +5,7 @@ use Prim.Native.Nat.{_+_, _*_}
 use borrow.Author.Needs.{needs}
 use borrow.Author.Tests.{le-leb, lt-leb}
 use lib.Dec.{leb}
-use Rattle.cipher.specs.Suite.{listed}
+use Rattle.suites.specs.Suite.{listed}
 use Rattle.writer.proofs.tests.is_valid.Statement.{statement}
 use Rattle.writer.proofs.tests.is_valid.Tie as tie
 

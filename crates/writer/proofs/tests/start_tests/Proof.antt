@@ -3,9 +3,9 @@ use mathlib.Core.Path.{_≡_, sym, _∙_}
 use borrow.Author.Needs.{needs}
 use borrow.Author.Tests.{not-true, not-false, eq-eqb, ne-eqb, le-leb, lt-leb}
 use lib.Dec.{eqb, leb}
-use Rattle.cipher.specs.declared.refusal.Answer.the-variants.{Done}
-use Rattle.cipher.specs.declared.refusal.Refusal.the-variants.{SuiteNotListed, KeyLength, OutputTooShort}
-use Rattle.cipher.specs.Suite.{listed}
+use Rattle.suites.specs.declared.refusal.Answer.the-variants.{Done}
+use Rattle.suites.specs.declared.refusal.Refusal.the-variants.{SuiteNotListed, KeyLength, OutputTooShort}
+use Rattle.suites.specs.Suite.{listed}
 use Rattle.limits.specs.Tests.{unless}
 use Rattle.writer.specs.Writer.{startOutcome}
 use Rattle.writer.proofs.Order.{passes, refuses}

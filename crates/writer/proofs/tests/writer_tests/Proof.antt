@@ -3,10 +3,10 @@ use mathlib.Core.Path.{_≡_, sym, ap, _∙_}
 use mathlib.Core.Bool.{not}
 use borrow.Author.Needs.{needs}
 use borrow.Author.Tests.{not-true, not-false}
-use Rattle.cipher.specs.declared.refusal.Answer.the-variants.{Done}
-use Rattle.cipher.specs.declared.refusal.Refusal.the-variants.{WriterInvalid, WriterClosed}
+use Rattle.suites.specs.declared.refusal.Answer.the-variants.{Done}
+use Rattle.suites.specs.declared.refusal.Refusal.the-variants.{WriterInvalid, WriterClosed}
 use Rattle.limits.specs.Tests.{unless}
-use Rattle.format.specs.Kind.{writerKind}
+use Rattle.fields.specs.Kind.{writerKind}
 use Rattle.writer.specs.Writer.{valid, writerTests}
 use Rattle.writer.proofs.Order.{passes, refuses}
 use Rattle.writer.proofs.tests.writer_tests.Statement.{statement}

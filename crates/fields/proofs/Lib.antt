@@ -1,0 +1,6 @@
+pub mod Each
+pub mod Reading
+pub mod Fields
+pub mod Texts
+pub mod Languages
+pub mod Details

@@ -1,0 +1,65 @@
+-- Strings joined in an output, and numbers and fields read from their bytes.
+use mathlib.Core.Path.{_≡_, sym, ap, _∙_}
+use mathlib.Core.Bool.{false, _&&_, and-true}
+use mathlib.Core.List.{List, [], _∷_, _++_, append-nil}
+use Prim.Native.Nat.{ℕ, _+_, _-_, _*_, _^_, _≤_, _<_}
+use native.Mathlib.Nat.{le-of-eq, pow-le-pow-right}
+use native.Mathlib.Decide.{ℕ-discrete}
+use native.Mathlib.Numerals.{add-one}
+use native.Mathlib.Omega.{arith}
+use borrow.Author.Tests.{ltb-false, lt-ltb, le-leb, lt-leb}
+use lib.Dec.{eqb, ltb}
+use lib.ListN.{length, getD, take, drop, length-take, length-drop, drop-of-length-le}
+use lib.Seq.{take-all, take-suc}
+use Rattle.bits.specs.Bytes.{Bytes, numberOf}
+use Rattle.bits.proofs.BigEndian.{numberOf-lt, numberOf-snoc}
+use Rattle.bits.proofs.Bytes.{bytes-take}
+use Rattle.bits.proofs.Lists.{part-at}
+use Rattle.fields.specs.Field.{fieldLength, hasField}
+
+-- a is at the output's start, and b is copied to the rest
+pub joined : (a b x : List ℕ) → take (length a) x ≡ a → length x ≡ length a + length b
+    → take (length a) x ++ ((b ++ drop (length b) (take (length x - length a) (drop (length a) x))) ++ drop (length x - length a) (drop (length a) x)) ≡ a ++ b
+joined a b x front long =
+    let k = length x - length a in
+    let rest = drop (length a) x in
+    let l : length rest ≡ k = length-drop (length a) x in
+    let in-b : length (take k rest) ≤ length b = rw length-take (omega arith) in
+    (λ i. front i ++ ((b ++ drop-of-length-le (take k rest) {i = length b} in-b i) ++ drop-of-length-le rest {i = k} (le-of-eq l) i))
+    ∙ ap (λ (r : List ℕ). a ++ r) (append-nil (b ++ []) ∙ append-nil b)
+
+-- the number of the first i bytes
+module _ (s : List ℕ) (i : ℕ) where
+  pub number-below : Bytes s → (k : ℕ) → i ≤ k → numberOf (take i s) < 256 ^ k
+  number-below h k l =
+      let up : 256 ^ length (take i s) ≤ 256 ^ k = pow-le-pow-right (omega arith) (rw length-take (omega arith)) in
+      omega (arith, numberOf-lt (take i s) (bytes-take i s h))
+
+  pub number-next : i < length s → numberOf (take i s) * 256 + getD s i 0 ≡ numberOf (take (i + 1) s)
+  number-next h = sym (ap (λ (n : ℕ). numberOf (take n s)) (add-one i) ∙ ap numberOf (take-suc s i 0 h) ∙ numberOf-snoc (take i s) (getD s i 0))
+
+  -- a loop to the end of s, or to k if that is less
+  pub taken-all : (k : ℕ) → i ≤ k → i ≤ length s → (ltb i (length s) && ltb i k) ≡ false → take i s ≡ take k s
+  taken-all k h l e = at (ℕ-discrete i k)
+    where
+      at : Dec (i ≡ k) → take i s ≡ take k s
+      at (yes q) = ap (λ (n : ℕ). take n s) q
+      at (no d) =
+          let end : length s ≤ i = ltb-false i (length s) (rw (lt-ltb i k (omega arith), and-true) at e) in
+          take-all i s end ∙ sym (take-all k s (omega arith))
+
+-- a field's length, of its bytes
+pub length-is : (s : List ℕ) → 3 ≤ length s → getD s 1 0 * 256 + getD s 2 0 ≡ fieldLength s
+unfolding fieldLength numberOf
+length-is s h =
+    let two : getD s 1 0 * 256 + getD s 2 0 ≡ numberOf (getD s 1 0 ∷ getD s 2 0 ∷ []) = omega arith in
+    two ∙ ap numberOf (part-at 2 s 1 h)
+
+module _ (tag n : ℕ) (s : List ℕ) where
+  pub bytes-missing : length s < 3 + n → false ≡ hasField tag n s
+  unfolding hasField
+  bytes-missing h = rw (lt-leb (3 + n) (length s) h)
+
+  pub field-there : 3 + n ≤ length s → (eqb (getD s 0 0) tag && eqb (getD s 1 0 * 256 + getD s 2 0) n) ≡ hasField tag n s
+  unfolding hasField
+  field-there h = rw (le-leb (3 + n) (length s) h) (ap (λ (m : ℕ). eqb (getD s 0 0) tag && eqb m n) (length-is s (omega arith)))
