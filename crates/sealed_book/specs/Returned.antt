@@ -1,14 +1,16 @@
 -- What the functions for C return, and what they leave in the numbers that they are lent.
 use mathlib.Core.List.{List}
 use Prim.Native.Nat.{ℕ}
-use Rattle.cipher.specs.declared.refusal.Answer.{Answer}
-use Rattle.cipher.specs.declared.refusal.Answer.the-variants.{Done, Refused}
-use Rattle.cipher.specs.declared.suite.Suite.{Suite}
-use Rattle.cipher.specs.Refusal.{number}
+use Rattle.suites.specs.declared.refusal.Answer.{Answer}
+use Rattle.suites.specs.declared.refusal.Answer.the-variants.{Done, Refused}
+use Rattle.suites.specs.declared.suite.Suite.{Suite}
+use Rattle.suites.specs.Refusal.{number}
 use Rattle.sealing.specs.declared.seal.SealAnswer.{SealAnswer}
 use Rattle.sealing.specs.declared.seal.SealAnswer.the-variants.{Sealed, Refused as SealRefused}
 use Rattle.tae.specs.declared.open.OpenAnswer.{OpenAnswer}
 use Rattle.tae.specs.declared.open.OpenAnswer.the-variants.{Opened, Refused as OpenRefused}
+use Rattle.reader.specs.declared.check.CheckAnswer.{CheckAnswer}
+use Rattle.reader.specs.declared.check.CheckAnswer.the-variants.{Accepted, Refused as CheckRefused}
 use Rattle.writer.specs.declared.Writer.{Writer}
 use Rattle.writer_bytes.specs.WriterBytes.{writerBytes}
 
@@ -47,3 +49,16 @@ openLength (OpenRefused why) old = old
 abbrev pub sealCalls : SealAnswer → ℕ → ℕ
 sealCalls (Sealed len count) old = count
 sealCalls (SealRefused why) old = old
+
+abbrev pub checkReturned : CheckAnswer → ℕ
+checkReturned (Accepted count total) = 0
+checkReturned (CheckRefused why) = number why
+
+-- the unit count and the call total, or what was there
+abbrev pub checkUnits : CheckAnswer → ℕ → ℕ
+checkUnits (Accepted count total) old = count
+checkUnits (CheckRefused why) old = old
+
+abbrev pub checkCalls : CheckAnswer → ℕ → ℕ
+checkCalls (Accepted count total) old = total
+checkCalls (CheckRefused why) old = old

@@ -1,20 +1,22 @@
 // The functions for C, as include/sealed_book.h declares them.
-use cipher::refusal::Answer;
-use cipher::suite::Suite;
+use reader::check::CheckAnswer;
 use sealing::seal::SealAnswer;
+use suites::refusal::Answer;
+use suites::suite::Suite;
 use tae::open::OpenAnswer;
 use writer::Writer;
 ghost use mathlib.Core.Path.{_≡_};
 ghost use lib.ListN.{length};
 ghost use Rattle.cipher.specs.Entry.{enciphered, deciphered, encipheredBlocks, decipheredBlocks};
-ghost use Rattle.cipher.specs.Suite.{suiteAnswer};
+ghost use Rattle.suites.specs.Suite.{suiteAnswer};
 ghost use Rattle.tae.specs.Open.{openAnswer, openBuffer};
 ghost use Rattle.sealing.specs.Seal.{sealAnswer, sealBuffer};
-ghost use Rattle.format.specs.Kind.{writerKind};
-ghost use Rattle.format.specs.Unit.{unitOf};
+ghost use Rattle.fields.specs.Kind.{writerKind};
+ghost use Rattle.fields.specs.Unit.{unitOf};
 ghost use Rattle.writer.specs.Writer.{startOutcome, startWriter, startBuffer, addOutcome, addWriter, addBuffer, closeOutcome, closeWriter, closeBuffer};
+ghost use Rattle.reader.specs.Check.{checkAnswer};
 ghost use Rattle.writer_bytes.specs.WriterBytes.{writerOf, writerBytes};
-ghost use Rattle.sealed_book.specs.Returned.{returned, suiteOf, bytesAfter, sealReturned, sealLength, sealCalls, openReturned, openLength};
+ghost use Rattle.sealed_book.specs.Returned.{returned, suiteOf, bytesAfter, sealReturned, sealLength, sealCalls, openReturned, openLength, checkReturned, checkUnits, checkCalls};
 
 // 0 for a call that was done, else the refusal's number.
 fn code(answer: Answer) -> u32
@@ -220,4 +222,19 @@ pub extern "C" fn sb_calls(writer: &[u8; 64]) -> u64
 {
     let w = writer_bytes::from_bytes(*writer);
     w.total
+}
+
+#[no_mangle]
+pub extern "C" fn sb_check(key: &[u8], book: &[u8], units: &mut u64, calls: &mut u64) -> u32
+    ensures { λ r. ⌜ (r ≡ checkReturned (checkAnswer writerKind (now (key .entry)) (now (book .entry)))) × (now (units .exit) ≡ checkUnits (checkAnswer writerKind (now (key .entry)) (now (book .entry))) (now (units .entry))) × (now (calls .exit) ≡ checkCalls (checkAnswer writerKind (now (key .entry)) (now (book .entry))) (now (calls .entry))) ⌝ }
+{
+    let answer = reader::check::check(key, book);
+    match answer {
+        CheckAnswer::Refused(why) => why.number(),
+        CheckAnswer::Accepted(count, total) => {
+            *units = count;
+            *calls = total;
+            0
+        }
+    }
 }

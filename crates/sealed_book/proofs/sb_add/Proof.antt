@@ -2,8 +2,8 @@
 use mathlib.Core.Path.{sym, ap, _∙_}
 use borrow.Author.Needs.{needs}
 use lib.ListN.{length}
-use Rattle.format.specs.Kind.{writerKind}
-use Rattle.format.specs.Unit.{unitOf}
+use Rattle.fields.specs.Kind.{writerKind}
+use Rattle.fields.specs.Unit.{unitOf}
 use Rattle.sealed_book.specs.Returned.{returned, bytesAfter}
 use Rattle.writer.specs.Writer.{addOutcome, addWriter, addBuffer}
 use Rattle.writer_bytes.specs.WriterBytes.{writerOf, writerBytes}

@@ -2,7 +2,7 @@
 use mathlib.Core.Path.{sym, ap, _∙_}
 use borrow.Author.Needs.{needs}
 use lib.ListN.{length}
-use Rattle.format.specs.Kind.{writerKind}
+use Rattle.fields.specs.Kind.{writerKind}
 use Rattle.sealed_book.specs.Returned.{returned, bytesAfter}
 use Rattle.writer.specs.Writer.{closeOutcome, closeWriter, closeBuffer}
 use Rattle.writer_bytes.specs.WriterBytes.{writerOf, writerBytes}

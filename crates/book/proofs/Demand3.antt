@@ -1,0 +1,122 @@
+-- Demand 3 holds of every kind that is well formed, where check accepts exactly the books of that kind.
+use mathlib.Core.Path.{_≡_, refl, sym, ap, subst, _∙_}
+use mathlib.Core.Bool.{Bool, true}
+use mathlib.Core.List.{List, map}
+use Prim.Native.Nat.{ℕ}
+use native.Mathlib.Omega.{arith}
+use lib.ListN.{length}
+use Rattle.bits.specs.Bytes.{Bytes}
+use Rattle.fields.specs.Each.{Each, none, more}
+use Rattle.fields.specs.Kind.{Kind, WellFormed, writerKind}
+use Rattle.format.specs.Layout.{bookBytes, bookLength, Bookable}
+use Rattle.format.specs.Sealings.{callTotal}
+use Rattle.fields.specs.Unit.{BookUnit, Allowed}
+use Rattle.fields.proofs.Each.{each-append}
+use Rattle.format.proofs.Lengths.{length-unitsBytes, length-bookBytes}
+use Rattle.format.proofs.One.{laid-one}
+use Rattle.writer.specs.History.{add, Callable, adds, closes, Start, started, hasClose, sealings}
+use Rattle.writer.specs.Left.{laidOut, sealedOf, Leaves as WriterLeaves, writing}
+use Rattle.writer.proofs.Left.{writer-half}
+use Rattle.writer.proofs.Passed.{start-passes}
+use Rattle.reader.specs.Exact.{bookSealings, IsBook, ReaderHalf}
+use Rattle.reader.proofs.Exact.{reader-half}
+use Rattle.parser.specs.Frame.{Readable}
+use Rattle.parser.proofs.Frames.{kind10-readable}
+use Rattle.book.specs.Demand3.{History, after, unitsAdded, leaves, LeavesBook, Demand3}
+
+-- allowed units can be handed to adds
+adds-all : {kind : Kind} {us : List BookUnit} → Each (Allowed kind) us → Each (Callable kind) (map add us)
+adds-all none = none
+adds-all (more a each) = more (adds (a .given)) (adds-all each)
+
+-- whether a list has an accepted close
+abbrev closed : {kind : Kind} → History kind → Bool
+closed {kind} h = hasClose kind (h .calls) (started (h .start))
+
+module _ (kind : Kind) (formed : WellFormed kind) where
+  left : (h : History kind) → WriterLeaves kind (h .start) (unitsAdded h) (closed h) (sealings kind (h .calls) (started (h .start))) (after h)
+  left h = writer-half kind formed .leaves (h .start) (h .calls) (h .callable)
+
+  -- with an accepted close, what is left is the book of the units, and the writer has its count and its call total
+  module _ (h : History kind) (us : List BookUnit) (same : unitsAdded h ≡ us) (close : closed h ≡ true) where
+    left-bytes : leaves h ≡ bookBytes kind (h .start .suite) (h .start .key) (h .start .number) us
+    unfolding laidOut bookBytes
+    left-bytes = left h .before ∙ (λ j. laidOut kind (h .start) (same j) (close j))
+
+    left-count : after h .writer .count ≡ length us
+    left-count = left h .count ∙ ap length same
+
+    left-total : after h .writer .total ≡ callTotal (bookSealings kind (h .start .suite) (h .start .number) us)
+    unfolding sealedOf bookSealings
+    left-total =
+        left h .total ∙ left h .sum ∙ ap callTotal (left h .sealed) ∙ (λ j. callTotal (sealedOf kind (h .start) (same j) (close j)))
+
+  -- so that string is a book
+  left-is : (h : History kind) {key x : List ℕ} {n t : ℕ} → LeavesBook h key x → after h .writer .count ≡ n → after h .writer .total ≡ t → IsBook kind key x n t
+  left-is h l count total =
+      let suite = h .start .suite in
+      let number = h .start .number in
+      record {
+        suite = suite;
+        number = number;
+        units = unitsAdded h;
+        bookable = subst (λ (k : List ℕ). Bookable kind suite k number (unitsAdded h)) (l .under) (left h .bookable);
+        bytes = sym (ap (λ (k : List ℕ). bookBytes kind suite k number (unitsAdded h)) (l .under)) ∙ sym (left-bytes h (unitsAdded h) refl (l .closed)) ∙ l .string;
+        count = sym (left-count h (unitsAdded h) refl (l .closed)) ∙ count;
+        total = sym (left-total h (unitsAdded h) refl (l .closed)) ∙ total;
+      }
+
+  -- every book can be written; a buffer of its length is enough, as the book itself
+  is-left : {key x : List ℕ} {n t : ℕ} → Bytes x → IsBook kind key x n t
+      → (h : History kind) × LeavesBook h key x × (after h .writer .count ≡ n) × (after h .writer .total ≡ t)
+  is-left {key} {x} bytes i =
+      let b = i .bookable in
+      let long : length x ≡ bookLength kind (i .units) =
+      sym (ap length (i .bytes)) ∙ length-bookBytes kind (i .suite) key (i .number) (i .units) (b .units) in
+      let start : Start = record {
+        suite = i .suite;
+        key = key;
+        number = i .number;
+        buffer = x;
+        keyBytes = b .keyBytes;
+        bufferBytes = bytes;
+        numberFits = b .numberFits;
+        accepted =
+            start-passes (i .suite) (length key) (length x)
+            (record {
+              listedSuite = b .listedSuite;
+              key = b .keyLong;
+              enough = omega (arith, length-unitsBytes kind (i .suite) key (i .number) 0 (i .units) (b .units));
+            });
+      } in
+      let h : History kind = record { start = start; calls = writing (i .units); callable = each-append (adds-all (b .units)) (more closes none) } in
+      let w = writer-half kind formed .writes start (i .units) (b .units) (b .few) (omega arith) in (
+        h,
+        record { under = refl; closed = w .1; string = left-bytes h (i .units) (w .0) (w .1) ∙ i .bytes },
+        left-count h (i .units) (w .0) (w .1) ∙ i .count,
+        left-total h (i .units) (w .0) (w .1) ∙ i .total,
+      )
+
+pub demand3-of : (kind : Kind) → WellFormed kind → ReaderHalf kind → Demand3 kind
+unfolding laidOut
+demand3-of kind formed reads =
+    record {
+      apart = λ h. left kind formed h .apart;
+      total = λ h. (left kind formed h .total ∙ left kind formed h .sum, left kind formed h .total);
+      exact = λ key x keyBytes bytes n t. (
+        λ e. is-left kind formed bytes (reads .accepted key x n t keyBytes bytes e),
+        λ (h, l, count, total). reads .accepts key x n t (left-is kind formed h l count total),
+      );
+      one = λ h₁ h₂ k e.
+          let l₁ = left kind formed h₁ in
+          let l₂ = left kind formed h₂ in
+          laid-one kind formed (closed h₁) (closed h₂) (l₁ .bookable) (l₂ .bookable) k (sym (l₁ .before) ∙ e ∙ l₂ .before) .2;
+      written = writer-half kind formed;
+    }
+
+-- for every kind that can be read, and so for the kind in the contracts of start, add, close and check
+pub demand3-readable : (kind : Kind) → Readable kind → Demand3 kind
+demand3-readable kind r = demand3-of kind (r .wellFormed) (reader-half kind r)
+
+pub demand3 : Demand3 writerKind
+demand3 = demand3-readable writerKind kind10-readable

@@ -1,0 +1,7 @@
+pub mod Seals
+pub mod Units
+pub mod Closes
+pub mod Walk
+pub mod Exact
+pub mod Verified
+pub mod Turns

@@ -1,0 +1,79 @@
+-- One turn of the walk over the frames of a book of the base's kind, and the tests before it.
+use mathlib.Core.Path.{_≡_, ap, _∙_}
+use mathlib.Core.Bool.{true, and-eq-true-iff}
+use mathlib.Core.List.{List}
+use Prim.Native.Nat.{ℕ, suc, _+_, _-_, _≤_}
+use native.Mathlib.Omega.{arith}
+use lib.ListN.{length, take, drop, length-drop}
+use lib.Seq.{take-all, drop-drop}
+use Rattle.calls.specs.Tweak.{blocksOf}
+use Rattle.suites.specs.declared.refusal.Answer.the-variants.{Done}
+use Rattle.suites.specs.declared.refusal.Refusal.{Refusal}
+use Rattle.suites.specs.declared.refusal.Refusal.the-variants.{SuiteNotListed, FieldMalformed}
+use Rattle.suites.specs.declared.suite.Suite.{Suite}
+use Rattle.suites.specs.Suite.{listed}
+use Rattle.limits.proofs.Passed.{unless-passed}
+use Rattle.fields.specs.Field.{hasField, afterField}
+use Rattle.fields.specs.Kind.{kind10}
+use Rattle.fields.proofs.Fields.{field-told}
+use Rattle.parser.specs.declared.frame.Frame.{Frame}
+use Rattle.parser.specs.declared.frame.Frame.the-variants.{Unit, Close, Refused as FrameRefused}
+use Rattle.parser.specs.Frame.{mostUnits, afterUnit, frameAt}
+use Rattle.parser.specs.Opening.{hasOpening, openingSuite, openingTests}
+use Rattle.parser.proofs.Fields.{length-after}
+use Rattle.parser.proofs.Frames.{UnitTold, unit-told}
+use Rattle.reader.specs.Check.{unitSealTests, closeSealTests, checkedAt, unitCalls, closeCalls, byFrame, walk}
+use Rattle.reader.specs.declared.check.CheckAnswer.{CheckAnswer}
+use Rattle.reader.specs.declared.check.CheckAnswer.the-variants.{Accepted, Refused as CheckRefused}
+use Rattle.reader.proofs.Seals.{unit-sealed}
+use Rattle.reader.proofs.Verified.{after-unit-is}
+use Rattle.reader.proofs.Walk.{walk-step}
+
+-- the part of a string from a place on
+pub part-rest : (at : ℕ) (s : List ℕ) → take (length s - at) (drop at s) ≡ drop at s
+part-rest at s = take-all (length s - at) (drop at s) (rw length-drop (omega arith))
+
+-- opening fields that pass their tests
+pub opening-passed : (s : List ℕ) → openingTests s ≡ Done → (listed (openingSuite s .cipher) (openingSuite s .steps) ≡ true) × (16 ≤ length s)
+unfolding openingTests hasOpening
+opening-passed s e =
+    let has = unless-passed (hasOpening s) FieldMalformed _ e in
+    let suite = unless-passed (listed (openingSuite s .cipher) (openingSuite s .steps)) SuiteNotListed Done (has .1) in
+    let both = and-eq-true-iff (hasField 0x01 8 s) (hasField 0x02 2 (afterField 8 s)) .0 (has .0) in
+    (suite .0, omega (arith, length-after 0x01 8 s (both .0), field-told 0x02 2 (afterField 8 s) (both .1)))
+
+module _ (suite : Suite) (key : List ℕ) (number : ℕ) where
+  -- a unit that passes its tests
+  pub unit-there : (n m : ℕ) (s : List ℕ) → checkedAt kind10 suite key number n s ≡ Unit m → UnitTold kind10 n m s
+  unfolding checkedAt
+  unit-there n m s e =
+      unit-told kind10 n m s
+      (unit-sealed (λ (k : ℕ). unitSealTests kind10 suite key number n k s) (closeSealTests kind10 suite key number n s) (frameAt kind10 n s) m e .0)
+
+  -- the walk from a place of s on, where n units have been read
+  abbrev pub walkFrom : ℕ → ℕ → ℕ → List ℕ → CheckAnswer
+  walkFrom place n total s = walk kind10 suite key number (suc mostUnits - n) n total (drop place s)
+
+  module _ (place n total : ℕ) (s : List ℕ) (few : n ≤ mostUnits) where
+    turn : (f : Frame) → checkedAt kind10 suite key number n (drop place s) ≡ f
+        → walkFrom place n total s
+        ≡ byFrame f (λ (m : ℕ). walk kind10 suite key number (mostUnits - n) (suc n) (total + unitCalls kind10 m) (afterUnit kind10 m (drop place s))) (Accepted n (total + closeCalls kind10))
+    turn f e =
+        let more : suc mostUnits - n ≡ suc (mostUnits - n) = omega arith in
+        ap (λ (left : ℕ). walk kind10 suite key number left n total (drop place s)) more
+        ∙ walk-step kind10 suite key number (mostUnits - n) n total (drop place s) f e
+
+    pub turn-refused : (why : Refusal) → checkedAt kind10 suite key number n (drop place s) ≡ FrameRefused why → walkFrom place n total s ≡ CheckRefused why
+    turn-refused why e = turn (FrameRefused why) e
+
+    pub turn-close : checkedAt kind10 suite key number n (drop place s) ≡ Close → walkFrom place n total s ≡ Accepted n (total + 3)
+    turn-close e = turn Close e
+
+    pub turn-unit : (m : ℕ) → checkedAt kind10 suite key number n (drop place s) ≡ Unit m
+        → walkFrom place n total s ≡ walkFrom (place + (31 + m)) (n + 1) (total + (3 + blocksOf m)) s
+    turn-unit m e =
+        let left : mostUnits - n ≡ suc mostUnits - (n + 1) = omega arith in
+        let next : suc n ≡ n + 1 = omega arith in
+        let sum : total + unitCalls kind10 m ≡ total + (3 + blocksOf m) = omega arith in
+        let rest : afterUnit kind10 m (drop place s) ≡ drop (place + (31 + m)) s = after-unit-is (drop place s) m ∙ drop-drop (31 + m) place s in
+        turn (Unit m) e ∙ (λ i. walk kind10 suite key number (left i) (next i) (sum i) (rest i))

@@ -1,0 +1,2 @@
+// Reading a book: check.
+pub mod check;
