@@ -6,10 +6,10 @@ use Rattle.bits.specs.Bytes.{bigEndian}
 use Rattle.calls.specs.Calls.{calls, blockCalls}
 use Rattle.calls.specs.Tweak.{tweak}
 use Rattle.rounds.specs.Tweakey.{φ}
-use Rattle.format.specs.Field.{field, fieldHead}
+use Rattle.fields.specs.Field.{field, fieldHead}
 use Rattle.format.specs.Layout.{bookLength}
 use Rattle.format.specs.Sealings.{openingFields, unitHeader, closeHeader, unitSealing, closeSealing, sealingCalls, cipherCalls}
-use Rattle.format.specs.Unit.{unitText, detailsOf}
+use Rattle.fields.specs.Unit.{unitText, detailsOf}
 use Rattle.known.specs.Known.{known, Holds}
 
 pub known-hold : Holds known

@@ -8,11 +8,11 @@ use Rattle.sbox.specs.Sbox
 use Rattle.lbox.specs.Lbox
 use Rattle.calls.specs.Calls.{calls}
 use Rattle.calls.specs.Tweak.{textTweak, headerTweak}
-use Rattle.cipher.specs.declared.suite.Suite.{Suite}
-use Rattle.format.specs.Kind.{kind10}
+use Rattle.suites.specs.declared.suite.Suite.{Suite}
+use Rattle.fields.specs.Kind.{kind10}
 use Rattle.format.specs.Layout.{bookLength}
 use Rattle.format.specs.Sealings.{openingFields, unitHeader, unitSealing, closeSealing, cipherCalls}
-use Rattle.format.specs.Unit.{BookUnit, unitOf, detailsOf}
+use Rattle.fields.specs.Unit.{BookUnit, unitOf, detailsOf}
 use Rattle.rounds.specs.Tweakey.{φ, rotatedRow}
 
 pub record Value : Type 0 where

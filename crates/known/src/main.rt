@@ -1,275 +1,36 @@
-// Runs the cases that another implementation made and writes what comes out; then the limits of known values 9, 10 and 11. The file
-// `stdout` beside this folder is made from the same cases by tests/expected.
-use cipher::refusal::Answer;
-use cipher::refusal::Refusal;
-use cipher::suite::Suite;
-use libc::STDOUT_FILENO;
+// The limits of known values 9, 10 and 11: what comes out is held to the file `stdout` beside this folder, which tests/expected makes.
 use sealing::seal::SealAnswer;
-use tae::open::OpenAnswer;
-use tae::verify::VerifyAnswer;
+use suites::refusal::Answer;
+use suites::suite::Suite;
 use writer::Writer;
-ghost use Prim.Native.Nat.{_<_, _≤_};
+ghost use Prim.Native.Nat.{_≤_};
 ghost use lib.ListN.{length};
-ghost use Rattle.io.specs.Counts.{Counts};
-
-// What the cases of a file are of.
-enum Kind {
-    Cipher,
-    Seal,
-    Open,
-}
-
-fn get(s: &[u8], i: usize) -> u8 {
-    if i < s.len() { s[i] } else { 0 }
-}
-
-fn digit(c: u8) -> u8
-    ensures { λ r. ⌜ r < 16 ⌝ }
-{
-    if c < 48 {
-        return 0;
-    }
-    if c < 58 {
-        return c - 48;
-    }
-    if c < 65 {
-        return 0;
-    }
-    if c < 71 { c - 55 } else { 0 }
-}
-
-// The byte that two hexadecimal digits say.
-fn byte_at(s: &[u8], at: usize) -> u8
-    requires { ⌜ at < 300000 ⌝ }
-{
-    digit(get(s, at)) * 16 + digit(get(s, at + 1))
-}
-
-// The bytes of the field at a place, at the buffer's start, as far as it goes; and how many. A field ends before the first
-// byte that is below the digits: a blank, a line feed, or the `-` that stands for no bytes.
-fn decode(s: &[u8], at: usize, out: &mut [u8]) -> usize
-    requires { ⌜ (at ≤ 262144) × (length (now out) ≤ 16384) ⌝ }
-    ensures { λ r. ⌜ Counts r (now (out .exit)) ⌝ }
-{
-    let n = out.len();
-    let mut i: usize = 0;
-    while i < n {
-        let place = at + 2 * i;
-        if get(s, place) < b'0' {
-            return i;
-        }
-        out[i] = byte_at(s, place);
-        i += 1;
-    }
-    i
-}
-
-fn block_at(s: &[u8], at: usize) -> [u8; 16]
-    requires { ⌜ at ≤ 262144 ⌝ }
-{
-    let mut b = [0u8; 16];
-    decode(s, at, &mut b);
-    b
-}
-
-fn hex(n: u8) -> u8
-    requires { ⌜ n < 16 ⌝ }
-{
-    if n < 10 { n + 48 } else { n + 55 }
-}
-
-fn write(text: &[u8]) {
-    io::write_all(STDOUT_FILENO, text);
-}
-
-fn write_number(n: usize) {
-    io::print_decimal(STDOUT_FILENO, n as u64);
-}
-
-fn write_byte(b: u8) {
-    write(&[hex(b / 16 % 16), hex(b % 16)]);
-}
-
-// The first n bytes in digits, or `-` for none.
-fn write_bytes(b: &[u8], n: usize) {
-    if n == 0 {
-        write(b"-");
-    }
-    let mut i: usize = 0;
-    while i < n {
-        write_byte(get(b, i));
-        i += 1;
-    }
-}
-
-fn write_block(b: [u8; 16]) {
-    write_bytes(&b, 16);
-}
-
-fn write_refusal(why: Refusal) {
-    write(b"refused:");
-    write_number(why.number() as usize);
-}
-
-// The place behind the next `stop`, or the end.
-fn behind(s: &[u8], at: usize, stop: u8) -> usize
-    ensures { λ r. ⌜ (r ≤ length (now (s .entry))) × (at < length (now (s .entry)) → at < r) ⌝ }
-{
-    let mut i = at;
-    while i < s.len() {
-        if s[i] == stop {
-            return i + 1;
-        }
-        i += 1;
-    }
-    s.len()
-}
-
-// Key, tweak, block and the block enciphered: what enciphering the block gives, and what deciphering the other one gives.
-fn run_cipher(suite: Suite, s: &[u8], at: usize)
-    requires { ⌜ (at ≤ length (now s)) × (length (now s) ≤ 262144) ⌝ }
-{
-    let key = block_at(s, at);
-    let t = behind(s, at, b' ');
-    let tweak = block_at(s, t);
-    let b = behind(s, t, b' ');
-    let enciphered = cipher::block::encipher(suite, key, tweak, block_at(s, b));
-    let c = behind(s, b, b' ');
-    let deciphered = cipher::block::decipher(suite, key, tweak, block_at(s, c));
-    let e = enciphered.block;
-    let d = deciphered.block;
-    write_block(e);
-    write(b" ");
-    write_block(d);
-}
-
-// The sealed bytes and the number of cipher calls.
-fn run_seal(suite: Suite, key: &[u8], nonce: &[u8], header: &[u8], text: &[u8]) {
-    let mut out = [0u8; 16384];
-    match sealing::seal::seal(suite, key, nonce, header, text, &mut out) {
-        SealAnswer::Sealed(n, calls) => {
-            write_bytes(&out, n);
-            write(b" ");
-            write_number(calls);
-        }
-        SealAnswer::Refused(why) => write_refusal(why),
-    }
-}
-
-// The text's first two bytes.
-fn run_verify(suite: Suite, key: &[u8], nonce: &[u8], header: &[u8], sealed: &[u8]) {
-    match tae::verify::verify(suite, key, nonce, header, sealed) {
-        VerifyAnswer::Agrees(first, second) => {
-            write_byte(first);
-            write_byte(second);
-        }
-        VerifyAnswer::Refused(why) => write_refusal(why),
-    }
-}
-
-// The text.
-fn run_open(suite: Suite, key: &[u8], nonce: &[u8], header: &[u8], sealed: &[u8]) {
-    let mut out = [0u8; 16384];
-    match tae::open::open(suite, key, nonce, header, sealed, &mut out) {
-        OpenAnswer::Opened(n) => write_bytes(&out, n),
-        OpenAnswer::Refused(why) => write_refusal(why),
-    }
-}
-
-// Key, nonce, header, and the text that is sealed or the sealed bytes that are opened.
-fn run_tae(sealing: bool, suite: Suite, s: &[u8], at: usize)
-    requires { ⌜ (at ≤ length (now s)) × (length (now s) ≤ 262144) ⌝ }
-{
-    let mut key = [0u8; 32];
-    let mut nonce = [0u8; 32];
-    let mut header = [0u8; 4096];
-    let mut input = [0u8; 16384];
-    let k = decode(s, at, &mut key);
-    let at_nonce = behind(s, at, b' ');
-    let n = decode(s, at_nonce, &mut nonce);
-    let at_header = behind(s, at_nonce, b' ');
-    let a = decode(s, at_header, &mut header);
-    let at_input = behind(s, at_header, b' ');
-    let m = decode(s, at_input, &mut input);
-    if sealing {
-        run_seal(suite, &key[..k], &nonce[..n], &header[..a], &input[..m]);
-    } else {
-        run_open(suite, &key[..k], &nonce[..n], &header[..a], &input[..m]);
-        write(b" ");
-        run_verify(suite, &key[..k], &nonce[..n], &header[..a], &input[..m]);
-    }
-}
-
-// One case: the suite, and what its file has. Fields have a blank between them.
-fn run_case(kind: Kind, s: &[u8], at: usize)
-    requires { ⌜ (at ≤ length (now s)) × (length (now s) ≤ 262144) ⌝ }
-{
-    let cipher = byte_at(s, at);
-    let steps = byte_at(s, at + 2);
-    let suite = Suite { cipher, steps };
-    let next = behind(s, at, b' ');
-    write_byte(cipher);
-    write_byte(steps);
-    write(b" ");
-    match kind {
-        Kind::Cipher => run_cipher(suite, s, next),
-        Kind::Seal => run_tae(true, suite, s, next),
-        Kind::Open => run_tae(false, suite, s, next),
-    }
-    write(b"\n");
-}
-
-// Every line that is no comment is a case.
-fn run_cases(kind: Kind, s: &[u8])
-    requires { ⌜ length (now s) ≤ 262144 ⌝ }
-{
-    let mut at: usize = 0;
-    while at < s.len() {
-        if s[at] != b'#' {
-            run_case(kind, s, at);
-        }
-        let next = behind(s, at, b'\n');
-        at = next;
-    }
-}
-
-fn run_file(kind: Kind, path: &[u8]) {
-    let fd = os::open_read(path);
-    if fd < 0 {
-        os::fail(path);
-        return;
-    }
-    let mut buf = [0u8; 262144];
-    let n = io::read_full(fd, &mut buf);
-    libc::close(fd);
-    run_cases(kind, &buf[..n]);
-}
 
 // Whether header and text pass under a nonce of 15 bytes; one of the two is empty.
 fn run_limit(name: &[u8], header: &[u8], text: &[u8])
     requires { ⌜ (length (now header) ≤ 4096) × (length (now text) ≤ 4096) ⌝ }
 {
-    let mut out = [0u8; 8192];
+    let mut out = [0u8; 4096];
     let suite = Suite {
         cipher: Suite::SCREAM,
         steps: 10,
     };
-    write(name);
-    write_number(header.len() + text.len());
-    write(b" ");
+    report::text(name);
+    report::number((header.len() + text.len()) as u64);
+    report::text(b" ");
     match sealing::seal::seal(suite, &[0u8; 16], &[0u8; 15], header, text, &mut out) {
-        SealAnswer::Sealed(_, _) => write(b"passes"),
-        SealAnswer::Refused(why) => write_refusal(why),
+        SealAnswer::Sealed(_, _) => report::text(b"passes"),
+        SealAnswer::Refused(why) => report::refusal(why),
     }
-    write(b"\n");
+    report::text(b"\n");
 }
 
 fn write_answer(answer: Answer) {
     match answer {
-        Answer::Done => write(b"passes\n"),
+        Answer::Done => report::text(b"passes\n"),
         Answer::Refused(why) => {
-            write_refusal(why);
-            write(b"\n");
+            report::refusal(why);
+            report::text(b"\n");
         }
     }
 }
@@ -280,9 +41,9 @@ fn run_start(buf: &mut [u8]) {
         cipher: Suite::SCREAM,
         steps: 10,
     };
-    write(b"start ");
-    write_number(buf.len());
-    write(b" ");
+    report::text(b"start ");
+    report::number(buf.len() as u64);
+    report::text(b" ");
     let started = Writer::start(suite, &[0u8; 16], 7, buf);
     let answer = started.answer;
     write_answer(answer);
@@ -290,14 +51,14 @@ fn run_start(buf: &mut [u8]) {
 
 // Whether a unit with this source can be added to a new book.
 fn run_source(source: &[u8]) {
-    let mut buf = [0u8; 8192];
+    let mut buf = [0u8; 4160];
     let suite = Suite {
         cipher: Suite::SCREAM,
         steps: 10,
     };
-    write(b"source ");
-    write_number(source.len());
-    write(b" ");
+    report::text(b"source ");
+    report::number(source.len() as u64);
+    report::text(b" ");
     let started = Writer::start(suite, &[0u8; 16], 7, &mut buf);
     let w = started.writer;
     let added = w.add(*b"en", *b"de", source, b"", &mut buf);
@@ -305,17 +66,22 @@ fn run_source(source: &[u8]) {
     write_answer(answer);
 }
 
-fn main() {
-    run_file(Kind::Cipher, b"cipher.txt");
-    run_file(Kind::Seal, b"seal.txt");
-    run_file(Kind::Open, b"open.txt");
+fn run_limits() {
     run_limit(b"text ", b"", &[0u8; 2048]);
     run_limit(b"text ", b"", &[0u8; 2049]);
     run_limit(b"header ", &[0u8; 1024], b"");
     run_limit(b"header ", &[0u8; 1025], b"");
+}
+
+fn run_writer() {
     run_start(&mut [0u8; 15]);
     run_start(&mut [0u8; 16]);
     run_source(&[0u8; 4096]);
     run_source(&[0u8; 4097]);
     run_source(b"");
+}
+
+fn main() {
+    run_limits();
+    run_writer();
 }

@@ -2,8 +2,8 @@
 use Prim.Native.Nat.{_-_, _≤_}
 use native.Mathlib.Omega.{arith}
 use lib.ListN.{length}
-use Rattle.known.proofs.run_cases.Statement.{statement}
-use Rattle.known.proofs.run_cases.Tie as tie
+use Rattle.vectors.proofs.run_cases.Statement.{statement}
+use Rattle.vectors.proofs.run_cases.Tie as tie
 
 abbrev Inv-loop : tie.InvT-loop
 Inv-loop kind s at₀ at = at ≤ length s

@@ -2,8 +2,8 @@
 use Prim.Native.Nat.{_-_, _≤_}
 use native.Mathlib.Omega.{arith}
 use lib.ListN.{length}
-use Rattle.known.proofs.behind.Statement.{statement}
-use Rattle.known.proofs.behind.Tie as tie
+use Rattle.vectors.proofs.behind.Statement.{statement}
+use Rattle.vectors.proofs.behind.Tie as tie
 
 abbrev Inv-loop : tie.InvT-loop
 Inv-loop s at stop i₀ i = at ≤ i

@@ -1,8 +1,8 @@
 -- Safe, and it ends.
 use Prim.Native.Nat.{_-_, _≤_}
 use borrow.Author.Needs.{needs}
-use Rattle.known.proofs.write_bytes.Statement.{statement}
-use Rattle.known.proofs.write_bytes.Tie as tie
+use Rattle.vectors.proofs.write_bytes.Statement.{statement}
+use Rattle.vectors.proofs.write_bytes.Tie as tie
 
 abbrev Inv-loop : tie.InvT-loop
 Inv-loop b n i₀ i = i ≤ n

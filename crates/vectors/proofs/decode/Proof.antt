@@ -5,8 +5,8 @@ use borrow.Author.Needs.{needs}
 use native.Mathlib.Omega.{arith}
 use lib.ListN.{length}
 use lib.Seq.{length-take-le}
-use Rattle.known.proofs.decode.Statement.{statement}
-use Rattle.known.proofs.decode.Tie as tie
+use Rattle.vectors.proofs.decode.Statement.{statement}
+use Rattle.vectors.proofs.decode.Tie as tie
 
 abbrev Inv-loop : tie.InvT-loop
 Inv-loop s at out₀ n i₀ out i = (i ≤ n) × (length out ≡ n)
