@@ -1,6 +1,6 @@
 /*
  * Scream and iScream (CAESAR version 1) in C, one block at a time, sealing over them, and the writer
- * of sealed books: the yardstick of the benchmark.
+ * and the checker of sealed books: the yardstick of the benchmark.
  *
  * The S-boxes are bitsliced on the eight rows (Algorithms 3 and 4, and 5 with its round corrected).
  * The L-boxes go by two tables of 256 words each, one for each byte of a row. Four byte tables, as
@@ -448,10 +448,10 @@ INLINE void seal(int cipher, int steps, const uint8_t *key, const uint8_t *nonce
     memcpy(out_tag, tag, 16);
 }
 
-/* Writes the text of `len` bytes; returns whether the tag after the ciphertext is its tag. */
+/* Writes the text of `len` bytes; returns whether the given tag is its tag. */
 INLINE int unseal(int cipher, int steps, const uint8_t *key, const uint8_t *nonce, size_t n,
                   const uint8_t *header, size_t header_len, const uint8_t *sealed, size_t len,
-                  uint8_t *text)
+                  const uint8_t *given, uint8_t *text)
 {
     uint8_t tweak[16], checksum[16] = {0}, tag[16] = {0};
     size_t at = 0;
@@ -469,7 +469,7 @@ INLINE int unseal(int cipher, int steps, const uint8_t *key, const uint8_t *nonc
     }
     add_header(cipher, steps, key, tweak, n, header, header_len, tag);
     add_checksum(cipher, steps, key, tweak, n, checksum, len, tag);
-    return memcmp(tag, sealed + len, 16) == 0;
+    return memcmp(tag, given, 16) == 0;
 }
 
 static size_t limit(size_t exponent)
@@ -529,8 +529,8 @@ uint32_t baseline_open(uint8_t cipher, uint8_t steps, const uint8_t *key, size_t
     if (text == NULL)
         abort();
     int same = cipher == SCREAM
-        ? unseal(SCREAM, steps, key, nonce, n, header, header_len, sealed, len, text)
-        : unseal(ISCREAM, steps, key, nonce, n, header, header_len, sealed, len, text);
+        ? unseal(SCREAM, steps, key, nonce, n, header, header_len, sealed, len, sealed + len, text)
+        : unseal(ISCREAM, steps, key, nonce, n, header, header_len, sealed, len, sealed + len, text);
     if (same)
         memcpy(out, text, len);
     free(text);
@@ -678,5 +678,118 @@ uint32_t baseline_close(baseline_writer *w, uint8_t *buffer, size_t len)
     seal_part(w, head, 5, NULL, 0, NULL, tag);
     w->place += 24;
     w->open = 0;
+    return 0;
+}
+
+/* What is left of a book that is checked. */
+typedef struct {
+    const uint8_t *at;
+    size_t len;
+} rest;
+
+INLINE size_t number_at(const uint8_t *at)
+{
+    return (size_t)at[0] << 8 | at[1];
+}
+
+/* The value of the field that comes next, and its length, where it has this tag and a length in this
+ * range; else NULL. */
+static const uint8_t *next_field(rest *r, uint8_t tag, size_t least, size_t most, size_t *len)
+{
+    if (r->len < 3 || r->at[0] != tag)
+        return NULL;
+    *len = number_at(r->at + 1);
+    if (*len < least || *len > most || r->len - 3 < *len)
+        return NULL;
+    const uint8_t *value = r->at + 3;
+    r->at = value + *len;
+    r->len -= 3 + *len;
+    return value;
+}
+
+/* Whether the tag is that of a ciphertext sealed along with the 16 bytes of fields 01 and 02 at the
+ * start of the book and a field of `head_len` bytes; writes its text, and counts the calls. */
+static int open_part(const uint8_t *key, const uint8_t *book, uint64_t units, const uint8_t *head,
+                     size_t head_len, const uint8_t *ciphertext, size_t len, const uint8_t *tag,
+                     uint8_t *text, uint64_t *calls)
+{
+    uint8_t nonce[12], header[25], cipher = book[14], steps = book[15];
+    size_t header_len = 16 + head_len;
+    put_number(put(nonce, book + 3, 8), units, 4);
+    put(put(header, book, 16), head, head_len);
+    *calls += (header_len + 15) / 16 + (len + 15) / 16 + 1;
+    return cipher == SCREAM
+        ? unseal(SCREAM, steps, key, nonce, 12, header, header_len, ciphertext, len, tag, text)
+        : unseal(ISCREAM, steps, key, nonce, 12, header, header_len, ciphertext, len, tag, text);
+}
+
+/* The unit that comes next. Returns 0, or the refusal's number. */
+static uint32_t check_unit(const uint8_t *key, const uint8_t *book, rest *r, uint64_t units,
+                           uint64_t *calls)
+{
+    uint8_t text[2 + 2 * LONGEST_SEGMENT];
+    size_t len, m;
+    const uint8_t *head = next_field(r, 0x10, 6, 6, &len);
+    if (head == NULL)
+        return 14;
+    if (units == MOST_UNITS)
+        return 13;
+    if (number_at(head) != units)
+        return 15;
+    if (!letters(head + 2) || !letters(head + 4) || memcmp(head + 2, head + 4, 2) == 0)
+        return 11;
+    const uint8_t *ciphertext = next_field(r, 0x11, 3, sizeof text, &m);
+    const uint8_t *tag = ciphertext == NULL ? NULL : next_field(r, 0x12, 16, 16, &len);
+    if (tag == NULL)
+        return 14;
+    if (!open_part(key, book, units, head - 3, 9, ciphertext, m, tag, text, calls))
+        return 8;
+    size_t s = number_at(text), segments = m - 2;
+    if (s == 0 || s > LONGEST_SEGMENT || s > segments || segments - s > LONGEST_SEGMENT)
+        return 12;
+    return 0;
+}
+
+/* The close that comes next, and the end of the book. Returns 0, or the refusal's number. */
+static uint32_t check_close(const uint8_t *key, const uint8_t *book, rest *r, uint64_t units,
+                            uint64_t *calls)
+{
+    size_t len;
+    const uint8_t *head = next_field(r, 0x20, 2, 2, &len);
+    const uint8_t *tag = head == NULL ? NULL : next_field(r, 0x12, 16, 16, &len);
+    if (tag == NULL)
+        return 14;
+    if (number_at(head) != units)
+        return 15;
+    if (!open_part(key, book, units, head - 3, 5, NULL, 0, tag, NULL, calls))
+        return 8;
+    return r->len == 0 ? 0 : 14;
+}
+
+/* Checks a book of `len` bytes. Returns 0, with unit count and call total written, or the refusal's
+ * number. */
+uint32_t baseline_check(const uint8_t *key, size_t key_len, const uint8_t *book, size_t len,
+                        uint64_t *unit_count, uint64_t *call_total)
+{
+    rest r = {book, len};
+    size_t value_len;
+    if (key_len != 16)
+        return 2;
+    if (next_field(&r, 0x01, 8, 8, &value_len) == NULL ||
+        next_field(&r, 0x02, 2, 2, &value_len) == NULL)
+        return 14;
+    if (!listed(book[14], book[15]))
+        return 1;
+    uint64_t units = 0, calls = 0;
+    for (; r.len == 0 || r.at[0] != 0x20; units++) {
+        uint32_t number = check_unit(key, book, &r, units, &calls);
+        if (number != 0)
+            return number;
+    }
+    uint32_t number = check_close(key, book, &r, units, &calls);
+    if (number != 0)
+        return number;
+    *unit_count = units;
+    *call_total = calls;
     return 0;
 }

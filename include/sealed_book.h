@@ -37,6 +37,9 @@ extern "C" {
 #define SB_LANGUAGES 11       /* a language code has a byte that is no letter a to z, or the two codes are the same */
 #define SB_SEGMENT_LENGTH 12  /* the source has not 1 to 4,096 bytes, or the target has more than 4,096 */
 #define SB_TOO_MANY_UNITS 13  /* the book has 65,535 units already */
+#define SB_FIELD_MALFORMED 14 /* a field of the book has another tag or length than it must have there, or bytes are missing or
+                                 left over */
+#define SB_UNIT_NUMBER 15     /* a unit's number is not the running one, or the close's count is not the number of units */
 
 /* Enciphers, or deciphers, one block of 16 bytes in place, under a key and a tweak of 16 bytes each.
  * Refusal: 1. */
@@ -111,6 +114,15 @@ uint32_t sb_add(uint8_t writer[SB_WRITER_LEN], uint8_t *buf, size_t buf_len, con
  * call total on and closes it. A slice of length 0 may be null.
  * Refusals, the first that applies: 9, 10, 7; then buf and writer are as they were. */
 uint32_t sb_close(uint8_t writer[SB_WRITER_LEN], uint8_t *buf, size_t buf_len);
+
+/* Checks a whole book, from its first byte to its last, under its key of 16 bytes: accepts it where sb_start, sb_add for each unit
+ * and sb_close under this key can have written it, and refuses any other bytes. Only reads. *units is then the number of units,
+ * *calls the number of cipher calls that were made for the book: what sb_units and sb_calls give of its writer. A slice of
+ * length 0 may be null.
+ * Refusals, the first that applies in the order of the bytes: 2; 14 of the opening fields; 1; of each unit 14 of its number and
+ * languages' field, 13, 15, 11, 14 of its ciphertext's and tag's fields, 8, 12; of the close 14 of its fields, 15, 8, and 14 for
+ * bytes left over. Then *units and *calls are as they were. */
+uint32_t sb_check(const uint8_t *key, size_t key_len, const uint8_t *book, size_t book_len, uint64_t *units, uint64_t *calls);
 
 /* The writer's place, unit count and call total. */
 uint64_t sb_place(const uint8_t writer[SB_WRITER_LEN]);

@@ -1,5 +1,5 @@
 //! A safe wrapper over bench/baseline.c. The functions on blocks say whether the suite is listed;
-//! sealing, opening and the writer return a refusal's number.
+//! sealing, opening, the writer and the checker return a refusal's number.
 
 extern "C" {
     fn baseline_encipher(
@@ -90,6 +90,15 @@ extern "C" {
     ) -> u32;
 
     fn baseline_close(writer: *mut Writer, buffer: *mut u8, len: usize) -> u32;
+
+    fn baseline_check(
+        key: *const u8,
+        key_len: usize,
+        book: *const u8,
+        len: usize,
+        units: *mut u64,
+        calls: *mut u64,
+    ) -> u32;
 }
 
 /// The baseline's writer; `open` is 0 where it is closed.
@@ -331,6 +340,24 @@ impl Writer {
         let number = unsafe { baseline_close(self, buffer.as_mut_ptr(), buffer.len()) };
         answer(number)
     }
+}
+
+/// Unit count and call total of a book that is accepted.
+#[inline]
+pub fn check(key: &[u8], book: &[u8]) -> Result<(u64, u64), u32> {
+    let (mut units, mut calls) = (0, 0);
+    // SAFETY: each slice is given with its length, and only the two numbers are written.
+    let number = unsafe {
+        baseline_check(
+            key.as_ptr(),
+            key.len(),
+            book.as_ptr(),
+            book.len(),
+            &mut units,
+            &mut calls,
+        )
+    };
+    answer(number).map(|()| (units, calls))
 }
 
 /// 0, or a refusal's number.

@@ -1,5 +1,6 @@
-//! The calls of the cipher that a sealing takes, for making them alone.
+//! The calls of the cipher that a sealing, or checking a book, takes, for making them alone.
 
+use reference::random::Random;
 use reference::sealing::calls;
 
 /// The tweaks and blocks of a call list, with what they are enciphered under.
@@ -39,5 +40,73 @@ impl CallList {
         let ((cipher, steps), tweaks, blocks) = (self.suite, &self.tweaks, &mut self.blocks);
         sealed_book::encipher_blocks(cipher, steps, &self.key, tweaks, blocks)
             .expect("the suite is listed");
+    }
+}
+
+/// As many tweaks and blocks as the longest unit of a book takes, with what they are enciphered and
+/// deciphered under, and how many each unit and the close take.
+#[derive(Clone)]
+pub struct CheckCalls {
+    suite: (u8, u8),
+    key: [u8; 16],
+    tweaks: Vec<u8>,
+    blocks: Vec<u8>,
+    counts: Vec<Counts>,
+}
+
+/// The calls of a unit, or the close, in bytes.
+#[derive(Clone, Copy)]
+struct Counts {
+    /// Header blocks, the last text block and the tag's.
+    enciphered: usize,
+    /// The other text blocks.
+    deciphered: usize,
+}
+
+impl CheckCalls {
+    /// For a book whose units have texts of these lengths.
+    pub fn new(suite: (u8, u8), key: [u8; 16], texts: impl Iterator<Item = usize>) -> CheckCalls {
+        let unit = |len: usize| Counts {
+            enciphered: 16 * 4,
+            deciphered: 16 * (len.div_ceil(16) - 1),
+        };
+        let close = Counts {
+            enciphered: 16 * 3,
+            deciphered: 0,
+        };
+        let counts: Vec<Counts> = texts.map(unit).chain([close]).collect();
+        let lengths = counts.iter().map(|one| one.enciphered.max(one.deciphered));
+        let longest = lengths.max().unwrap_or(0);
+        let mut random = Random::new(2014);
+        CheckCalls {
+            suite,
+            key,
+            tweaks: random.some_bytes(longest),
+            blocks: random.some_bytes(longest),
+            counts,
+        }
+    }
+
+    /// How many calls they are in all.
+    pub fn count(&self) -> usize {
+        let bytes = self
+            .counts
+            .iter()
+            .map(|one| one.enciphered + one.deciphered);
+        bytes.sum::<usize>() / 16
+    }
+
+    /// For each unit and the close as many blocks enciphered and deciphered as it takes, by a call of
+    /// the library each.
+    pub fn run(&mut self) {
+        let ((cipher, steps), key) = (self.suite, &self.key);
+        for one in &self.counts {
+            let (tweaks, blocks) = (&self.tweaks, &mut self.blocks[..one.deciphered]);
+            sealed_book::decipher_blocks(cipher, steps, key, tweaks, blocks)
+                .expect("the suite is listed");
+            let blocks = &mut self.blocks[..one.enciphered];
+            sealed_book::encipher_blocks(cipher, steps, key, tweaks, blocks)
+                .expect("the suite is listed");
+        }
     }
 }

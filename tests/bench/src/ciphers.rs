@@ -101,7 +101,7 @@ fn lines() -> Vec<Line<Data>> {
             for blocks in [1, MANY] {
                 lines.push(Line {
                     cells: format!("{name:<11}{word:<10}{blocks:>6}"),
-                    bytes: 16 * blocks,
+                    size: 16 * blocks,
                     later: false,
                     data: Data::new(suite, direction, blocks),
                 });

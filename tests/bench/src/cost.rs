@@ -14,13 +14,14 @@ const TIME: Duration = Duration::from_secs(10);
 pub enum Per {
     Byte,
     Call,
+    Unit,
 }
 
 impl Per {
-    /// How many bytes these runs work on, or how many calls they make.
-    pub fn many(self, runs: usize, bytes: usize) -> usize {
+    /// How many bytes or units these runs work on, or how many calls they make.
+    pub fn many(self, runs: usize, size: usize) -> usize {
         match self {
-            Per::Byte => runs * bytes,
+            Per::Byte | Per::Unit => runs * size,
             Per::Call => runs,
         }
     }
@@ -29,21 +30,21 @@ impl Per {
     pub fn heads(self) -> String {
         match self {
             Per::Byte => self.cells("ns/B", "c/B"),
-            Per::Call => self.cells("ns", "c"),
+            Per::Call | Per::Unit => self.cells("ns", "c"),
         }
     }
 
-    /// Two cells; those of a call have greater numbers.
+    /// Two cells; those of a call or a unit have greater numbers.
     fn cells(self, nanoseconds: &str, cycles: &str) -> String {
         match self {
             Per::Byte => format!("  {nanoseconds:>8}{cycles:>7}"),
-            Per::Call => format!("  {nanoseconds:>8}{cycles:>9}"),
+            Per::Call | Per::Unit => format!("  {nanoseconds:>8}{cycles:>9}"),
         }
     }
 }
 
-/// Nanoseconds and, where they are counted, cycles, a byte or a call: the least of the measurements
-/// so far.
+/// Nanoseconds and, where they are counted, cycles, a byte, a call or a unit: the least of the
+/// measurements so far.
 #[derive(Clone, Copy)]
 pub struct Cost {
     pub nanoseconds: f64,
@@ -56,7 +57,7 @@ impl Cost {
         cycles: None,
     };
 
-    /// Runs what works on so many bytes, or makes so many calls, and adds what it cost for one.
+    /// Runs what works on so many bytes or units, or makes so many calls, and adds what it cost for one.
     pub fn measure(&mut self, counter: &mut Option<Cycles>, many: usize, run: impl FnOnce()) {
         let first = counter.as_mut().and_then(Cycles::now);
         let start = Instant::now();
@@ -81,9 +82,12 @@ impl Cost {
     pub fn cells(&self, per: Per) -> String {
         let digits = match per {
             Per::Byte => 2,
-            Per::Call => 0,
+            Per::Call | Per::Unit => 0,
         };
-        let cell = |number: f64| format!("{number:.digits$}");
+        let cell = |number: f64| match number.is_finite() {
+            true => format!("{number:.digits$}"),
+            false => "-".to_string(),
+        };
         let cycles = self.cycles.map_or("-".to_string(), cell);
         per.cells(&cell(self.nanoseconds), &cycles)
     }

@@ -1,5 +1,6 @@
 //! Measures the proved library beside the reference and the baseline in C, all in one run.
 
+mod checking;
 mod ciphers;
 mod sealing;
 mod writing;
@@ -13,4 +14,6 @@ fn main() {
     sealing::table(&mut counter);
     println!();
     writing::table(&mut counter);
+    println!();
+    checking::table(&mut counter);
 }

@@ -129,7 +129,7 @@ fn lines() -> Vec<Line<Data>> {
             for (word, direction) in [("seal", Direction::Seal), ("open", Direction::Open)] {
                 lines.push(Line {
                     cells: format!("{name:<11}{word:<5}{len:>6}"),
-                    bytes: len,
+                    size: len,
                     later: direction == Direction::Open,
                     data: Data::new(suite, direction, len),
                 });

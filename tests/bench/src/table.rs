@@ -13,8 +13,10 @@ pub const SUITES: [(&str, (u8, u8)); 2] = [("Scream 10", (1, 10)), ("iScream 12"
 pub struct Contestant<D> {
     name: &'static str,
     about: String,
-    /// Bytes, about, in one measurement.
-    bytes: usize,
+    /// The size, about, of one measurement.
+    size: usize,
+    /// The greatest size of the lines that it is measured on.
+    most: usize,
     run: fn(&mut D),
     /// Whether it does all that the library does, and leaves the same.
     whole: bool,
@@ -23,40 +25,51 @@ pub struct Contestant<D> {
 }
 
 impl<D> Contestant<D> {
-    fn new(name: &'static str, about: String, bytes: usize, run: fn(&mut D)) -> Contestant<D> {
+    fn new(name: &'static str, about: String, size: usize, run: fn(&mut D)) -> Contestant<D> {
         Contestant {
             name,
             about,
-            bytes,
+            size,
+            most: usize::MAX,
             run,
             whole: true,
             digits: 3,
         }
     }
 
-    pub fn library(bytes: usize, run: fn(&mut D)) -> Contestant<D> {
-        Contestant::new("library", "the proved library".to_string(), bytes, run)
+    pub fn library(size: usize, run: fn(&mut D)) -> Contestant<D> {
+        Contestant::new("library", "the proved library".to_string(), size, run)
     }
 
-    pub fn calls(bytes: usize, run: fn(&mut D)) -> Contestant<D> {
+    pub fn calls(size: usize, run: fn(&mut D)) -> Contestant<D> {
         let about = "its function on many blocks alone, on as many as the call list has";
+        Contestant::calls_by(about, size, run)
+    }
+
+    /// Calls of the cipher alone, made as it is said.
+    pub fn calls_by(about: &str, size: usize, run: fn(&mut D)) -> Contestant<D> {
         Contestant {
             whole: false,
-            ..Contestant::new("calls", about.to_string(), bytes, run)
+            ..Contestant::new("calls", about.to_string(), size, run)
         }
     }
 
-    pub fn reference(more: &str, bytes: usize, run: fn(&mut D)) -> Contestant<D> {
+    pub fn reference(more: &str, size: usize, run: fn(&mut D)) -> Contestant<D> {
         let about = format!("the plain second implementation in Rust{more}");
         Contestant {
             digits: 4,
-            ..Contestant::new("reference", about, bytes, run)
+            ..Contestant::new("reference", about, size, run)
         }
     }
 
-    pub fn baseline(more: &str, bytes: usize, run: fn(&mut D)) -> Contestant<D> {
+    pub fn baseline(more: &str, size: usize, run: fn(&mut D)) -> Contestant<D> {
         let about = format!("bench/baseline.c with -O3{more}");
-        Contestant::new("C", about, bytes, run)
+        Contestant::new("C", about, size, run)
+    }
+
+    /// The same, but not measured on lines of a greater size.
+    pub fn up_to(self, most: usize) -> Contestant<D> {
+        Contestant { most, ..self }
     }
 }
 
@@ -64,8 +77,8 @@ impl<D> Contestant<D> {
 pub struct Line<D> {
     /// What stands before the costs.
     pub cells: String,
-    /// Bytes that one run works on.
-    pub bytes: usize,
+    /// Its size: the bytes that one run works on, or the units where the costs are of those.
+    pub size: usize,
     /// Whether the library is held against the last line that is not a later one, too.
     pub later: bool,
     pub data: D,
@@ -118,7 +131,8 @@ impl<D: Clone> Table<D> {
     /// Sees that those who do the same leave the same on this line.
     fn assert_agreement(&self, line: &Line<D>) {
         let mut done = Vec::new();
-        for contestant in self.contestants.iter().filter(|one| one.whole) {
+        let whole = |one: &&Contestant<D>| one.whole && line.size <= one.most;
+        for contestant in self.contestants.iter().filter(whole) {
             let mut data = line.data.clone();
             (contestant.run)(&mut data);
             done.push(data);
@@ -134,8 +148,11 @@ impl<D: Clone> Table<D> {
         let rounds = in_rounds(|| {
             for (line, costs) in zip(&mut self.lines, &mut costs) {
                 for (contestant, cost) in zip(&self.contestants, costs) {
-                    let runs = contestant.bytes.div_ceil(line.bytes);
-                    cost.measure(counter, self.per.many(runs, line.bytes), || {
+                    if line.size > contestant.most {
+                        continue;
+                    }
+                    let runs = contestant.size.div_ceil(line.size);
+                    cost.measure(counter, self.per.many(runs, line.size), || {
                         for _ in 0..runs {
                             (contestant.run)(black_box(&mut line.data));
                         }
@@ -173,6 +190,7 @@ impl<D: Clone> Table<D> {
         let cells = costs.iter().map(|cost| cost.cells(self.per));
         self.print_row(&line.cells, cells, |ratio| match ratio.to {
             None if !line.later => "-".to_string(),
+            Some(i) if line.size > self.contestants[i].most => "-".to_string(),
             to => {
                 let other = to.map_or(earlier, |i| costs[i]);
                 let value = costs[0].nanoseconds / other.nanoseconds;

@@ -111,7 +111,7 @@ fn lines() -> Vec<Line<Data>> {
         for (len, add) in UNITS {
             lines.push(Line {
                 cells: format!("{name:<11}{len:>6}{add:>7}"),
-                bytes: len,
+                size: len,
                 later: add > 1,
                 data: Data::new(suite, len, add),
             });

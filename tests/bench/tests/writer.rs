@@ -32,7 +32,7 @@ fn book_vectors_are_written_again() {
             continue;
         };
         let key = v.key[..].try_into().expect("an accepted key");
-        let book = Book::taken_apart(&key, &v.book);
+        let book = Book::taken_apart(&key, &v.book).expect("a book");
         let mut buffer = vec![0; v.book.len()];
         let (mut writer, answer) =
             baseline::start(book.cipher, book.steps, &key, book.number, &mut buffer);

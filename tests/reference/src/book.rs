@@ -2,9 +2,24 @@
 //!
 //! Quoted sentences are the scope's.
 
+use crate::cipher::listed;
 use crate::random::Random;
-use crate::sealing::{open, seal};
+use crate::sealing::{seal, unsealed};
 use crate::state::Block;
+
+/// "Units count from 0, at most 65,535."
+pub const MOST_UNITS: usize = 65_535;
+
+/// "Languages are letters a to z, and the two codes differ."
+pub fn languages_allowed(from: [u8; 2], to: [u8; 2]) -> bool {
+    let letters = [from, to].concat();
+    letters.iter().all(u8::is_ascii_lowercase) && from != to
+}
+
+/// "s is 1 to 4,096, t 0 to 4,096"
+pub fn lengths_allowed(s: usize, t: usize) -> bool {
+    (1..=4_096).contains(&s) && t <= 4_096
+}
 
 /// A unit: two language codes, and a segment in each language.
 #[derive(Clone, Debug, PartialEq, Eq)]
@@ -20,6 +35,12 @@ impl Unit {
     pub fn text(&self) -> Vec<u8> {
         let s = two_bytes(self.source.len());
         [&s[..], &self.source, &self.target].concat()
+    }
+
+    /// Whether a book may have this unit.
+    fn allowed(&self) -> bool {
+        languages_allowed(self.from, self.to)
+            && lengths_allowed(self.source.len(), self.target.len())
     }
 }
 
@@ -45,6 +66,22 @@ impl Book {
         }
     }
 
+    /// Known value 8: book 7, Scream with 10 steps, one unit from en to de with s 5 and t 6.
+    pub fn known(key: [u8; 16]) -> Book {
+        Book {
+            cipher: 1,
+            steps: 10,
+            key,
+            number: 7,
+            units: vec![Unit {
+                from: *b"en",
+                to: *b"de",
+                source: b"valve".to_vec(),
+                target: b"Ventil".to_vec(),
+            }],
+        }
+    }
+
     /// The book's bytes, and how many calls of the cipher they take. The suite is listed, and the
     /// units are such as a book may have.
     pub fn laid_out(&self) -> (Vec<u8>, usize) {
@@ -67,42 +104,48 @@ impl Book {
         (book, calls + close_calls)
     }
 
-    /// The book of these bytes, which are such that checking would accept them.
-    pub fn taken_apart(key: &Block, bytes: &[u8]) -> Book {
-        let fields = fields(bytes);
-        let [(0x01, number), (0x02, &[cipher, steps]), between @ .., (0x20, count), (0x12, tag)] =
+    /// The book that is laid out as these bytes under this key, where there is one.
+    pub fn taken_apart(key: &Block, bytes: &[u8]) -> Option<Book> {
+        let book = Book::read(key, bytes)?;
+        let allowed = book.units.iter().all(Unit::allowed);
+        (allowed && book.laid_out().0 == bytes).then_some(book)
+    }
+
+    /// The only book that these bytes may be the layout of. What the units are, tags, unit numbers and
+    /// the count are not looked at.
+    fn read(key: &Block, bytes: &[u8]) -> Option<Book> {
+        let fields = fields(bytes)?;
+        let [(0x01, number), (0x02, &[cipher, steps]), between @ .., (0x20, _), (0x12, _)] =
             &fields[..]
         else {
-            panic!("the fields are those of a book");
+            return None;
         };
         let mut book = Book {
             cipher,
             steps,
             key: *key,
-            number: u64::from_be_bytes((*number).try_into().unwrap()),
+            number: u64::from_be_bytes((*number).try_into().ok()?),
             units: Vec::new(),
         };
-        for three in between.chunks(3) {
-            let [(0x10, head), (0x11, ciphertext), (0x12, tag)] = three else {
-                panic!("the fields are those of a unit");
+        if !listed(cipher, steps) || between.len() > 3 * MOST_UNITS {
+            return None;
+        }
+        for (i, three) in between.chunks(3).enumerate() {
+            let [(0x10, &[_, _, f0, f1, t0, t1]), (0x11, ciphertext), (0x12, _)] = three else {
+                return None;
             };
-            let i = book.units.len();
-            let [from, to] = [2, 4].map(|at| head[at..at + 2].try_into().unwrap());
-            assert_eq!(field(0x10, head), unit_head(i, from, to));
-            let text = book.opened(i, &field(0x10, head), ciphertext, tag);
-            let (s, segments) = text.split_at(2);
-            let (source, target) = segments.split_at(256 * s[0] as usize + s[1] as usize);
+            let text = unsealed(cipher, steps, key, &book.nonce(i), ciphertext);
+            let (s, segments) = text.split_at_checked(2)?;
+            let s = 256 * s[0] as usize + s[1] as usize;
+            let (source, target) = segments.split_at_checked(s)?;
             book.units.push(Unit {
-                from,
-                to,
+                from: [f0, f1],
+                to: [t0, t1],
                 source: source.to_vec(),
                 target: target.to_vec(),
             });
         }
-        let units = book.units.len();
-        assert_eq!(field(0x20, count), close_head(units));
-        book.opened(units, &close_head(units), &[], tag);
-        book
+        Some(book)
     }
 
     /// "01 (8 bytes, book number), 02 (suite)"
@@ -135,23 +178,6 @@ impl Book {
         let tag = ciphertext.split_off(len);
         (ciphertext, tag, calls)
     }
-
-    /// The text of a unit, or the close's, which is empty.
-    fn opened(&self, i: usize, head: &[u8], ciphertext: &[u8], tag: &[u8]) -> Vec<u8> {
-        let header = [&self.opening(), head].concat();
-        let sealed = [ciphertext, tag].concat();
-        let nonce = self.nonce(i);
-        let opened = open(
-            self.cipher,
-            self.steps,
-            &self.key,
-            &nonce,
-            &header,
-            &sealed,
-            ciphertext.len(),
-        );
-        opened.expect("the tag is the one of these bytes")
-    }
 }
 
 /// "A field is a one-byte tag, a two-byte big-endian length, a value."
@@ -175,16 +201,15 @@ fn two_bytes(number: usize) -> [u8; 2] {
     [(number / 256) as u8, (number % 256) as u8]
 }
 
-/// Tag and value of each field that these bytes are made of.
-fn fields(mut bytes: &[u8]) -> Vec<(u8, &[u8])> {
+/// Tag and value of each field that these bytes are made of, where they are made of fields.
+fn fields(mut bytes: &[u8]) -> Option<Vec<(u8, &[u8])>> {
     let mut fields = Vec::new();
     while let [tag, high, low, rest @ ..] = bytes {
-        let (value, after) = rest.split_at(256 * *high as usize + *low as usize);
+        let (value, after) = rest.split_at_checked(256 * *high as usize + *low as usize)?;
         fields.push((*tag, value));
         bytes = after;
     }
-    assert!(bytes.is_empty());
-    fields
+    bytes.is_empty().then_some(fields)
 }
 
 #[cfg(test)]
@@ -195,18 +220,7 @@ mod tests {
     /// Known value 8, and every field's tag and length at its place.
     #[test]
     fn known_book() {
-        let book = Book {
-            cipher: 1,
-            steps: 10,
-            key: [9; 16],
-            number: 7,
-            units: vec![Unit {
-                from: *b"en",
-                to: *b"de",
-                source: b"valve".to_vec(),
-                target: b"Ventil".to_vec(),
-            }],
-        };
+        let book = Book::known([9; 16]);
         let (bytes, calls) = book.laid_out();
         assert_eq!((bytes.len(), calls), (84, 7));
         let opening = [1, 0, 8, 0, 0, 0, 0, 0, 0, 0, 7, 2, 0, 2, 1, 10];
@@ -243,7 +257,8 @@ mod tests {
                 assert_eq!(bytes.len(), len);
                 let texts = book.units.iter().map(|unit| unit.text().len().div_ceil(16));
                 assert_eq!(calls, texts.map(|blocks| blocks + 3).sum::<usize>() + 3);
-                assert_eq!(Book::taken_apart(&book.key, &bytes), book, "suite {i}");
+                let again = Book::taken_apart(&book.key, &bytes);
+                assert_eq!(again.as_ref(), Some(&book), "suite {i}");
                 book.units.push(Unit {
                     from: *b"fr",
                     to: *b"it",

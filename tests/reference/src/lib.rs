@@ -1,11 +1,12 @@
 //! A second implementation of the tweakable block ciphers Scream and iScream (CAESAR version 1), of the
-//! sealing mode over them, and of the writer of sealed books.
+//! sealing mode over them, and of the writer and the checker of sealed books.
 //!
 //! It is written from the paper's tables, on columns and rows as the paper draws them, and is
 //! never fast: it is there to be read, and to hold other implementations against.
 
 pub mod book;
 pub mod boxes;
+pub mod check;
 pub mod cipher;
 pub mod random;
 pub mod sealing;

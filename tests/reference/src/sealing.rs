@@ -226,6 +226,30 @@ pub fn seal(
     Ok((assembled(&calls, &enciphered, text), calls.len()))
 }
 
+/// The text that a ciphertext has under a listed suite, whatever its tag is.
+pub fn unsealed(cipher: u8, steps: u8, key: &Block, nonce: &[u8], ciphertext: &[u8]) -> Vec<u8> {
+    let mut text = Vec::new();
+    let mut rest = ciphertext;
+    while rest.len() > 16 {
+        let (bytes, after) = rest.split_at(16);
+        let tweak = tweak(nonce, Text(text.len() / 16));
+        let block = bytes.try_into().unwrap();
+        text.extend(decipher(cipher, steps, key, &tweak, block).unwrap());
+        rest = after;
+    }
+    if !rest.is_empty() {
+        let place = if rest.len() == 16 {
+            TextLastFull
+        } else {
+            TextLastPartial
+        };
+        let length = length_block(rest.len());
+        let mask = encipher(cipher, steps, key, &tweak(nonce, place), &length).unwrap();
+        text.extend(rest.iter().zip(mask).map(|(byte, m)| byte ^ m));
+    }
+    text
+}
+
 /// The text; or the first refusal of 1 to 8. `out_len` is the length of the output that it is for.
 pub fn open(
     cipher: u8,
@@ -250,24 +274,7 @@ pub fn open(
     let enciphered =
         |place, block: Block| encipher(cipher, steps, &key, &tweak(nonce, place), &block).unwrap();
 
-    let mut text = Vec::new();
-    let mut rest = ciphertext;
-    while rest.len() > 16 {
-        let (bytes, after) = rest.split_at(16);
-        let place = Text(text.len() / 16);
-        let block = bytes.try_into().unwrap();
-        text.extend(decipher(cipher, steps, &key, &tweak(nonce, place), block).unwrap());
-        rest = after;
-    }
-    if !rest.is_empty() {
-        let place = if rest.len() == 16 {
-            TextLastFull
-        } else {
-            TextLastPartial
-        };
-        let mask = enciphered(place, length_block(rest.len()));
-        text.extend(rest.iter().zip(mask).map(|(byte, m)| byte ^ m));
-    }
+    let text = unsealed(cipher, steps, &key, nonce, ciphertext);
 
     // "Checksum: xor of text blocks, the last zero-filled."
     let mut checksum = [0; 16];

@@ -3,6 +3,7 @@
 //! Quoted sentences are the scope's. Refusals are given by their numbers. The bytes are put down at
 //! their places, and not by way of `book`, so that the two can be held against each other.
 
+use crate::book::{languages_allowed, lengths_allowed, MOST_UNITS};
 use crate::cipher::listed;
 use crate::sealing::seal;
 use crate::state::Block;
@@ -22,12 +23,6 @@ pub struct Writer {
 
 /// Nothing, or the first refusal.
 pub type Answer = Result<(), u32>;
-
-/// The most units that a book has.
-const MOST_UNITS: u64 = 65_535;
-
-/// The longest segment.
-const LONGEST: usize = 4_096;
 
 /// "Start takes suite, key, book number and buffer, and writes 16 bytes; refused, it hands back a
 /// closed writer of zeros." Refusals 1, 2 and 7.
@@ -87,11 +82,11 @@ impl Writer {
             9
         } else if self.closed {
             10
-        } else if !allowed(from, to) {
+        } else if !languages_allowed(from, to) {
             11
-        } else if s == 0 || s > LONGEST || t > LONGEST {
+        } else if !lengths_allowed(s, t) {
             12
-        } else if self.units == MOST_UNITS {
+        } else if self.units == MOST_UNITS as u64 {
             13
         } else if self.room(buffer.len()) < 33 + s + t {
             7
@@ -122,7 +117,7 @@ impl Writer {
         !listed(self.cipher, self.steps)
             || self.place < 16
             || self.place > buffer_len as u64
-            || self.units > MOST_UNITS
+            || self.units > MOST_UNITS as u64
             || u128::from(self.calls) > most_calls
     }
 
@@ -212,12 +207,6 @@ impl Writer {
         );
         sealed.expect("a listed suite, and within the limits")
     }
-}
-
-/// "Languages are letters a to z, and the two codes differ."
-fn allowed(from: [u8; 2], to: [u8; 2]) -> bool {
-    let letters = [from, to].concat();
-    letters.iter().all(u8::is_ascii_lowercase) && from != to
 }
 
 impl Writer {
@@ -350,7 +339,7 @@ mod tests {
     fn the_first_refusal_is_given() {
         let mut buffer = vec![0; 100];
         let open = Writer {
-            units: MOST_UNITS,
+            units: MOST_UNITS as u64,
             ..started(&mut buffer)
         };
         let closed = Writer {

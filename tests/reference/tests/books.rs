@@ -1,21 +1,35 @@
-//! The accepted books of book.txt, taken apart and laid out again, at once and step by step.
+//! The books of book.txt: checked; and the accepted ones taken apart and laid out again, at once and
+//! step by step.
 
 use reference::book::Book;
+use reference::check::check;
 use reference::cipher::SUITES;
 use reference::vectors::book_vectors;
 use reference::writer::start;
 
 #[test]
-fn accepted_books_are_laid_out_again() {
+fn book_vectors_hold() {
     let vectors = book_vectors();
     assert_eq!(vectors.len(), 80);
+    for v in vectors {
+        let expected = v.answer.map(|(units, calls)| (units as u64, calls as u64));
+        assert_eq!(check(&v.key, &v.book), expected, "line {}", v.line);
+        let key = v.key[..].try_into().expect("16 bytes");
+        let book = Book::taken_apart(&key, &v.book);
+        assert_eq!(book.is_some(), expected.is_ok(), "line {}", v.line);
+    }
+}
+
+#[test]
+fn accepted_books_are_laid_out_again() {
+    let vectors = book_vectors();
     let mut suites = Vec::new();
     for v in vectors {
         let Ok((units, calls)) = v.answer else {
             continue;
         };
         let key = v.key[..].try_into().expect("an accepted key");
-        let book = Book::taken_apart(&key, &v.book);
+        let book = Book::taken_apart(&key, &v.book).expect("a book");
         assert_eq!(book.units.len(), units, "line {}", v.line);
         let again = book.laid_out();
         assert_eq!(again, (v.book.clone(), calls), "line {}", v.line);

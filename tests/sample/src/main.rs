@@ -1,8 +1,8 @@
 //! Enciphers one block with the proved library and deciphers it again; seals a sentence, opens it
-//! again, and has it refused with one byte changed; writes a book of three sentences. Prints what it
-//! did.
+//! again, and has it refused with one byte changed; writes a book of three sentences, checks it, and
+//! has it refused with two blocks exchanged. Prints what it did.
 
-use sealed_book::{decipher, encipher, open, seal, Refusal, Writer};
+use sealed_book::{check, decipher, encipher, open, seal, Checked, Refusal, Writer};
 
 /// Scream with 10 steps.
 const CIPHER: u8 = 1;
@@ -113,6 +113,21 @@ fn one_book(key: &[u8]) -> Result<(), Refusal> {
         println!("one more    refused {number}: {refusal}");
     }
     assert_eq!(answer, Err(Refusal::WriterClosed));
+
+    let book = &mut buffer[..writer.place as usize];
+    let Checked { units, calls } = check(key, book)?;
+    println!("checked     units {units}, calls of the cipher {calls}  those of the writer");
+    assert_eq!((units, calls), (writer.units, writer.calls));
+
+    let (one, other) = book[28..60].split_at_mut(16);
+    one.swap_with_slice(other);
+    match check(key, book) {
+        Ok(_) => panic!("two exchanged blocks were not seen"),
+        Err(refusal) => println!(
+            "exchanged   refused {}: {refusal}  after two blocks of unit 0 changed places",
+            refusal.number()
+        ),
+    }
     Ok(())
 }
 

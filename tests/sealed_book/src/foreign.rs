@@ -96,6 +96,15 @@ extern "C" {
 
     pub fn sb_close(writer: *mut u8, buf: *mut u8, buf_len: usize) -> u32;
 
+    pub fn sb_check(
+        key: *const u8,
+        key_len: usize,
+        book: *const u8,
+        book_len: usize,
+        units: *mut u64,
+        calls: *mut u64,
+    ) -> u32;
+
     pub fn sb_place(writer: *const u8) -> u64;
 
     pub fn sb_units(writer: *const u8) -> u64;

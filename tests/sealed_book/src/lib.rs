@@ -1,5 +1,5 @@
 //! A safe wrapper over the proved library: the tweakable block ciphers Scream and iScream, sealing
-//! and opening under them, and the writer of sealed books.
+//! and opening under them, and the writer and the checker of sealed books.
 //!
 //! A suite is a cipher (1 Scream, 2 iScream) and a number of steps: 6, 8, 10 or 12 for Scream,
 //! 8, 10, 12 or 14 for iScream. Any other is refused. After a refusal what was lent to be written
@@ -182,4 +182,32 @@ pub fn open(
     };
     refusal::answer(number)?;
     Ok(usize::try_from(len).expect("no longer than the output"))
+}
+
+/// What checking returns: how many units the book has, and how many calls of the cipher it has taken
+/// to write.
+#[derive(Clone, Copy, Debug, PartialEq, Eq)]
+pub struct Checked {
+    pub units: u64,
+    pub calls: u64,
+}
+
+/// Checks a whole book under its key: accepted is what a writer leaves after its close, and nothing
+/// else. Only reads.
+#[inline]
+pub fn check(key: &[u8], book: &[u8]) -> Result<Checked, Refusal> {
+    let (mut units, mut calls) = (0, 0);
+    // SAFETY: each slice is given with its length, and only the two numbers are written.
+    let number = unsafe {
+        foreign::sb_check(
+            key.as_ptr(),
+            key.len(),
+            book.as_ptr(),
+            book.len(),
+            &mut units,
+            &mut calls,
+        )
+    };
+    refusal::answer(number)?;
+    Ok(Checked { units, calls })
 }

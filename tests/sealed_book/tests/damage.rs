@@ -3,6 +3,7 @@
 mod common;
 
 use common::sealing::Given;
+use common::swapped;
 use reference::cipher::SUITES;
 use reference::random::Random;
 
@@ -144,16 +145,6 @@ fn bytes_put_in() {
             }
         }
     }
-}
-
-/// Two blocks of 16 bytes change places.
-fn swapped(bytes: &[u8], one: usize, other: usize) -> Vec<u8> {
-    let mut swapped = bytes.to_vec();
-    for i in 0..16 {
-        swapped.swap(16 * one + i, 16 * other + i);
-    }
-    assert_ne!(swapped, bytes);
-    swapped
 }
 
 /// Blocks of ciphertext and header change places, those too whose numbers have the same low byte.

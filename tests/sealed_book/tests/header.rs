@@ -31,6 +31,11 @@ fn about_the_book() -> Vec<String> {
         format!("close 0 {closed}"),
         format!("closed 10 {}", hex(&book)),
         "place 84 units 1 calls 7".to_string(),
+        "check 14 units 7 calls 8".to_string(),
+        "check 0 units 1 calls 7".to_string(),
+        "check 8 units 7 calls 8".to_string(),
+        "check 2 units 7 calls 8".to_string(),
+        "check 14 units 7 calls 8".to_string(),
         format!("none 2 {zeros}"),
         format!("zeros 9 {zeros}"),
     ]

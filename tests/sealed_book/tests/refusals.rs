@@ -57,7 +57,7 @@ fn seal_gives_the_first_cause() {
     // how many sets begin with each cause
     assert_eq!(
         refused,
-        [1, 32, 16, 8, 4, 0, 2, 1, 0, 0, 0, 0, 0, 0].map(|sets| sets * CASES)
+        [1, 32, 16, 8, 4, 0, 2, 1, 0, 0, 0, 0, 0, 0, 0, 0, 0].map(|sets| sets * CASES)
     );
 }
 
@@ -97,7 +97,7 @@ fn open_gives_the_first_cause() {
     // how many sets begin with each cause
     assert_eq!(
         refused,
-        [1, 96, 48, 24, 12, 4, 4, 2, 1, 0, 0, 0, 0, 0].map(|sets| sets * CASES)
+        [1, 96, 48, 24, 12, 4, 4, 2, 1, 0, 0, 0, 0, 0, 0, 0, 0].map(|sets| sets * CASES)
     );
 }
 

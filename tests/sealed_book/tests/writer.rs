@@ -4,7 +4,7 @@
 mod common;
 
 use common::writing::{unit, Call, Desk};
-use reference::book::{Book, Unit};
+use reference::book::Book;
 use reference::cipher::SUITES;
 use reference::random::Random;
 use reference::vectors::book_vectors;
@@ -35,14 +35,7 @@ fn written(random: &mut Random, book: &Book, spare: usize, name: &str) -> Desk {
 #[test]
 fn known_book() {
     let mut random = Random::new(SEED);
-    let mut book = Book::random(&mut random, (1, 10));
-    book.number = 7;
-    book.units.push(Unit {
-        from: *b"en",
-        to: *b"de",
-        source: b"valve".to_vec(),
-        target: b"Ventil".to_vec(),
-    });
+    let book = Book::known(random.bytes());
     let desk = written(&mut random, &book, 16, "known value 8");
     assert_eq!(
         desk.buffer[..16],
@@ -68,7 +61,7 @@ fn book_vectors_are_written_again() {
         };
         let name = format!("line {}", v.line);
         let key = v.key[..].try_into().expect("an accepted key");
-        let book = Book::taken_apart(&key, &v.book);
+        let book = Book::taken_apart(&key, &v.book).expect("a book");
         for spare in [0, 1, 30] {
             let desk = written(&mut random, &book, spare, &name);
             assert_eq!(desk.buffer[..v.book.len()], v.book, "{name}");

@@ -4,6 +4,7 @@ mod common;
 
 use common::causes::{first_is_given, sets, CASES};
 use common::writing::{unit, Call, Desk};
+use common::{codes_with_each_byte, UNLISTED};
 use reference::book::Unit;
 use reference::cipher::{listed, SUITES};
 use reference::random::Random;
@@ -15,18 +16,6 @@ const SEED: u64 = 0x5752_4546;
 const START: [u32; 3] = [1, 2, 7];
 const ADD: [u32; 6] = [9, 10, 11, 12, 13, 7];
 const CLOSE: [u32; 3] = [9, 10, 7];
-
-/// Suites that are not listed.
-const UNLISTED: [(u8, u8); 8] = [
-    (0, 0),
-    (0, 10),
-    (1, 4),
-    (1, 7),
-    (1, 14),
-    (2, 6),
-    (3, 10),
-    (255, 255),
-];
 
 /// An open writer that is not refused, at this place.
 fn writer(random: &mut Random, place: usize) -> Writer {
@@ -155,7 +144,7 @@ fn add_gives_the_first_cause() {
     // how many sets begin with each cause
     assert_eq!(
         refused,
-        [1, 0, 0, 0, 0, 0, 0, 1, 0, 32, 16, 8, 4, 2].map(|sets| sets * CASES)
+        [1, 0, 0, 0, 0, 0, 0, 1, 0, 32, 16, 8, 4, 2, 0, 0, 0].map(|sets| sets * CASES)
     );
 }
 
@@ -233,27 +222,20 @@ fn every_key_length() {
 fn every_byte_in_a_code() {
     let mut random = Random::new(SEED + 5);
     let (mut passed, mut equal) = (0, 0);
-    for at in 0..4 {
-        for byte in 0..=255 {
-            let mut codes = *b"enin";
-            if at % 2 == 1 {
-                codes = *b"esen";
-            }
-            codes[at] = byte;
-            let [f0, f1, t0, t1] = codes;
-            let mut unit = unit(&mut random, 3, 4);
-            (unit.from, unit.to) = ([f0, f1], [t0, t1]);
-            let mut desk = Desk::new(&mut random, 100);
-            desk.writer = writer(&mut random, 16).encoded();
-            if !byte.is_ascii_lowercase() {
-                desk.refuses(&Call::Add(unit), 100, 11, "no letter");
-            } else if unit.from == unit.to {
-                desk.refuses(&Call::Add(unit), 100, 11, "the same code");
-                equal += 1;
-            } else {
-                desk.passes(&Call::Add(unit), 100, "two codes");
-                passed += 1;
-            }
+    for (byte, codes) in codes_with_each_byte() {
+        let [f0, f1, t0, t1] = codes;
+        let mut unit = unit(&mut random, 3, 4);
+        (unit.from, unit.to) = ([f0, f1], [t0, t1]);
+        let mut desk = Desk::new(&mut random, 100);
+        desk.writer = writer(&mut random, 16).encoded();
+        if !byte.is_ascii_lowercase() {
+            desk.refuses(&Call::Add(unit), 100, 11, "no letter");
+        } else if unit.from == unit.to {
+            desk.refuses(&Call::Add(unit), 100, 11, "the same code");
+            equal += 1;
+        } else {
+            desk.passes(&Call::Add(unit), 100, "two codes");
+            passed += 1;
         }
     }
     assert_eq!((passed, equal), (4 * 25, 4));

@@ -77,6 +77,23 @@ int main(void) {
     print("close", sb_close(writer, book, sizeof book), writer, sizeof writer);
     print("closed", sb_close(writer, book, sizeof book), book, sizeof book);
     printf("place %u units %u calls %u\n", (unsigned)sb_place(writer), (unsigned)sb_units(writer), (unsigned)sb_calls(writer));
+
+    /* four bytes more, the book itself, a changed tag, nothing lent, and a key alone */
+    uint64_t units = 7;
+    calls = 8;
+    returned = sb_check(key, sizeof key, book, sizeof book, &units, &calls);
+    printf("check %u units %u calls %u\n", (unsigned)returned, (unsigned)units, (unsigned)calls);
+    returned = sb_check(key, sizeof key, book, 84, &units, &calls);
+    printf("check %u units %u calls %u\n", (unsigned)returned, (unsigned)units, (unsigned)calls);
+    units = 7, calls = 8;
+    book[83] ^= 1;
+    returned = sb_check(key, sizeof key, book, 84, &units, &calls);
+    printf("check %u units %u calls %u\n", (unsigned)returned, (unsigned)units, (unsigned)calls);
+    returned = sb_check(NULL, 0, NULL, 0, &units, &calls);
+    printf("check %u units %u calls %u\n", (unsigned)returned, (unsigned)units, (unsigned)calls);
+    returned = sb_check(key, sizeof key, NULL, 0, &units, &calls);
+    printf("check %u units %u calls %u\n", (unsigned)returned, (unsigned)units, (unsigned)calls);
+
     print("none", sb_start(SB_SCREAM, 10, NULL, 0, 7, NULL, 0, writer), writer, sizeof writer);
     print("zeros", sb_close(writer, NULL, 0), writer, sizeof writer);
     return 0;

@@ -1,16 +1,79 @@
-//! Both directions of a cipher, in the library and in the reference; sealing; writing a book; and
-//! causes of refusal.
+//! Both directions of a cipher, in the library and in the reference; sealing; writing and checking a
+//! book; and causes of refusal.
 
 // Each test file uses a part of this.
 #![allow(dead_code)]
 
 pub mod causes;
+pub mod checking;
+pub mod parts;
 pub mod sealing;
 pub mod writing;
+
+use std::ptr::null;
 
 use sealed_book::Refusal;
 
 pub type Block = [u8; 16];
+
+/// Suites that are not listed.
+pub const UNLISTED: [(u8, u8); 8] = [
+    (0, 0),
+    (0, 10),
+    (1, 4),
+    (1, 7),
+    (1, 14),
+    (2, 6),
+    (3, 10),
+    (255, 255),
+];
+
+/// The refusal of a number that the reference gave.
+pub fn refusal(number: u32) -> Refusal {
+    Refusal::from_number(number).expect("a refusal's number")
+}
+
+/// Two language codes with each byte at each place: the byte, and the codes, of which four times two are
+/// the same.
+pub fn codes_with_each_byte() -> impl Iterator<Item = (u8, [u8; 4])> {
+    let places = (0..4).flat_map(|at| (0..=255).map(move |byte| (at, byte)));
+    places.map(|(at, byte): (usize, u8)| {
+        let mut codes = if at % 2 == 0 { *b"enin" } else { *b"esen" };
+        codes[at] = byte;
+        (byte, codes)
+    })
+}
+
+/// Null for a slice of length 0.
+pub fn pointer(bytes: &[u8]) -> *const u8 {
+    match bytes {
+        [] => null(),
+        _ => bytes.as_ptr(),
+    }
+}
+
+/// Says where two buffers differ first.
+pub fn assert_same(after: &[u8], expected: &[u8], name: impl Fn() -> String) {
+    assert_eq!(after.len(), expected.len());
+    if after != expected {
+        let at = (0..after.len()).find(|&at| after[at] != expected[at]);
+        panic!(
+            "the byte at {at:?} of {} is not as expected: {}",
+            after.len(),
+            name()
+        );
+    }
+}
+
+/// Two blocks of 16 bytes change places.
+pub fn swapped(bytes: &[u8], one: usize, other: usize) -> Vec<u8> {
+    let mut swapped = bytes.to_vec();
+    for i in 0..16 {
+        swapped.swap(16 * one + i, 16 * other + i);
+    }
+    assert_ne!(swapped, bytes);
+    swapped
+}
 
 #[derive(Clone, Copy, Debug, PartialEq)]
 pub enum Direction {

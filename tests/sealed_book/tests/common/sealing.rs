@@ -5,7 +5,9 @@ use std::hint::black_box;
 use reference::random::Random;
 use reference::sealing;
 use sealed_book::foreign::{sb_open, sb_seal};
-use sealed_book::{Refusal, Sealed};
+use sealed_book::Sealed;
+
+use super::refusal;
 
 /// Bytes before and after the output that a call must leave as they are.
 const GUARD: usize = 32;
@@ -219,11 +221,6 @@ impl Given {
             body.len()
         )
     }
-}
-
-/// The refusal of a number that the reference gave.
-fn refusal(number: u32) -> Refusal {
-    Refusal::from_number(number).expect("a refusal's number")
 }
 
 /// An output with guards around it, filled with bytes that are known.

@@ -1,7 +1,7 @@
 //! The writer in the library and in the reference, with every byte that a call leaves compared.
 
 use std::hint::black_box;
-use std::ptr::{null, null_mut};
+use std::ptr::null_mut;
 
 use reference::book::{Book, Unit};
 use reference::random::Random;
@@ -10,6 +10,8 @@ use reference::writer::Answer;
 use sealed_book::foreign::{sb_add, sb_close, sb_start};
 use sealed_book::raw::Bytes;
 use sealed_book::{Refusal, Writer};
+
+use super::{assert_same, pointer, refusal};
 
 /// Bytes before and after the buffer and the writer that a call must leave as they are.
 const GUARD: usize = 32;
@@ -147,14 +149,6 @@ impl Call {
     }
 }
 
-/// Null for a slice of length 0.
-fn pointer(bytes: &[u8]) -> *const u8 {
-    match bytes {
-        [] => null(),
-        _ => bytes.as_ptr(),
-    }
-}
-
 /// The 64 bytes of a writer, with guards around them.
 #[repr(C)]
 struct Guarded {
@@ -281,23 +275,5 @@ fn by_value(writer: &second::Writer) -> Writer {
         units: writer.units,
         calls: writer.calls,
         open: !writer.closed,
-    }
-}
-
-/// The refusal of a number that the reference gave.
-fn refusal(number: u32) -> Refusal {
-    Refusal::from_number(number).expect("a refusal's number")
-}
-
-/// Says where two buffers differ first.
-fn assert_same(after: &[u8], expected: &[u8], name: impl Fn() -> String) {
-    assert_eq!(after.len(), expected.len());
-    if after != expected {
-        let at = (0..after.len()).find(|&at| after[at] != expected[at]);
-        panic!(
-            "the byte at {at:?} of {} is not as expected: {}",
-            after.len(),
-            name()
-        );
     }
 }

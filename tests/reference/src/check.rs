@@ -1,0 +1,273 @@
+//! Checking a book: one walk over its bytes, with each unit and the close opened.
+//!
+//! Quoted sentences are the scope's. Refusals are given by their numbers. Nothing is laid out here, so
+//! that checking can be held against `book`.
+
+use std::ops::RangeInclusive;
+
+use crate::book::{languages_allowed, lengths_allowed, MOST_UNITS};
+use crate::cipher::listed;
+use crate::sealing::{call_count, open};
+
+/// "Checking takes key and book, writes nothing, returns unit count and call total. It reads in byte
+/// order." Or the first refusal.
+pub fn check(key: &[u8], book: &[u8]) -> Result<(u64, u64), u32> {
+    if key.len() != 16 {
+        return Err(2);
+    }
+    let mut place = 0;
+    // "14 of 01 and 02; 1"
+    let number = field(book, &mut place, 0x01, 8..=8)?;
+    let suite = field(book, &mut place, 0x02, 2..=2)?;
+    let (cipher, steps) = (suite[0], suite[1]);
+    if !listed(cipher, steps) {
+        return Err(1);
+    }
+    let opening = &book[..place];
+
+    // the text of a unit, or of the close; "the header sealed along is fields 01, 02 and 10 (25 bytes)
+    // or 20 (21 bytes)"
+    let opened = |units: usize, head: &[u8], ciphertext: &[u8], tag: &[u8]| {
+        let nonce = [number, &(units as u32).to_be_bytes()].concat();
+        let header = [opening, head].concat();
+        let sealed = [ciphertext, tag].concat();
+        let m = ciphertext.len();
+        let text = open(cipher, steps, key, &nonce, &header, &sealed, m)?;
+        Ok::<_, u32>((text, call_count(header.len(), m)))
+    };
+
+    let (mut units, mut calls) = (0, 0);
+    while book.get(place) != Some(&0x20) {
+        // "each unit: 14 of its header, 13, 15, 11, 14 of the rest, 8, 12"
+        let start = place;
+        let value = field(book, &mut place, 0x10, 6..=6)?;
+        let head = &book[start..place];
+        if units == MOST_UNITS {
+            return Err(13);
+        }
+        if two_byte_number(&value[..2]) != units {
+            return Err(15);
+        }
+        if !languages_allowed([value[2], value[3]], [value[4], value[5]]) {
+            return Err(11);
+        }
+        let ciphertext = field(book, &mut place, 0x11, 3..=8_194)?;
+        let tag = field(book, &mut place, 0x12, 16..=16)?;
+        let (text, count) = opened(units, head, ciphertext, tag)?;
+        // "t is what s leaves of the text, and an s longer than the bytes after it is out of range"
+        let (s, segments) = text.split_at(2);
+        let s = two_byte_number(s);
+        if s > segments.len() || !lengths_allowed(s, segments.len() - s) {
+            return Err(12);
+        }
+        units += 1;
+        calls += count;
+    }
+
+    // "close: 14 of both its fields, 15, 8, then 14 for bytes left over"
+    let start = place;
+    let count = field(book, &mut place, 0x20, 2..=2)?;
+    let head = &book[start..place];
+    let tag = field(book, &mut place, 0x12, 16..=16)?;
+    if two_byte_number(count) != units {
+        return Err(15);
+    }
+    let (_, count) = opened(units, head, &[], tag)?;
+    calls += count;
+    if place < book.len() {
+        return Err(14);
+    }
+    Ok((units as u64, calls as u64))
+}
+
+/// The value of the field at the place, which is moved behind it; refusal 14 where the tag is another,
+/// the length not one of these, or bytes are missing.
+fn field<'a>(
+    book: &'a [u8],
+    place: &mut usize,
+    tag: u8,
+    lengths: RangeInclusive<usize>,
+) -> Result<&'a [u8], u32> {
+    let value = *place + 3;
+    let head = book.get(*place..value).ok_or(14u32)?;
+    let len = two_byte_number(&head[1..]);
+    if head[0] != tag || !lengths.contains(&len) {
+        return Err(14);
+    }
+    *place = value + len;
+    book.get(value..*place).ok_or(14)
+}
+
+/// "All numbers in values and texts are big-endian too."
+fn two_byte_number(bytes: &[u8]) -> usize {
+    usize::from(u16::from_be_bytes([bytes[0], bytes[1]]))
+}
+
+#[cfg(test)]
+mod tests {
+    use super::*;
+    use crate::book::{self, Book, Unit};
+    use crate::cipher::SUITES;
+    use crate::random::Random;
+    use crate::sealing::seal;
+
+    const KEY: [u8; 16] = [9; 16];
+
+    /// Known value 8's book: 84 bytes, with fields at 0, 11, 16, 25, 41, 60 and 65.
+    fn known() -> Vec<u8> {
+        Book::known(KEY).laid_out().0
+    }
+
+    /// The known book with these bytes from a place on.
+    fn with(at: usize, bytes: &[u8]) -> Vec<u8> {
+        let mut book = known();
+        book[at..at + bytes.len()].copy_from_slice(bytes);
+        book
+    }
+
+    #[test]
+    fn known_book() {
+        assert_eq!(known().len(), 84);
+        assert_eq!(check(&KEY, &known()), Ok((1, 7)));
+    }
+
+    #[test]
+    fn each_refusal() {
+        for (at, bytes, number) in [
+            (0, &[2][..], 14),
+            (2, &[7], 14),
+            (11, &[1], 14),
+            (13, &[3], 14),
+            (14, &[3], 1),
+            (15, &[11], 1),
+            (10, &[8], 8),
+            (15, &[8], 8),
+            (16, &[0x11], 14),
+            (18, &[5], 14),
+            (20, &[1], 15),
+            (21, b"deen", 8),
+            (21, b"eNde", 11),
+            (21, b"dede", 11),
+            (25, &[0x12], 14),
+            (26, &[0, 2], 14),
+            (26, &[0x20, 3], 14),
+            (27, &[12], 14),
+            (28, &[0; 13], 8),
+            (41, &[0x11], 14),
+            (43, &[15], 14),
+            (44, &[0; 16], 8),
+            (60, &[0x21], 14),
+            (62, &[3], 14),
+            (64, &[0], 15),
+            (65, &[0x11], 14),
+            (67, &[15], 14),
+            (68, &[0; 16], 8),
+        ] {
+            let answer = check(&KEY, &with(at, bytes));
+            assert_eq!(answer, Err(number), "{bytes:?} at {at}");
+        }
+        for len in 0..84 {
+            assert_eq!(check(&KEY, &known()[..len]), Err(14), "{len} bytes");
+        }
+        assert_eq!(check(&KEY, &[&known()[..], &[0]].concat()), Err(14));
+        assert_eq!(check(&KEY[1..], &known()), Err(2));
+        assert_eq!(check(&[1; 17], &[]), Err(2));
+    }
+
+    /// A text with an s that is out of range, sealed as a unit's.
+    #[test]
+    fn lengths_out_of_range() {
+        let opening = &known()[..16];
+        for (s, after, number) in [
+            (0, 1, 12),
+            (1, 1, 14),
+            (2, 1, 12),
+            (11, 11, 14),
+            (12, 11, 12),
+            (0xFFFF, 11, 12),
+            (4_096, 4_097, 14),
+            (4_097, 4_097, 12),
+            (4_096, 8_192, 14),
+            (4_095, 8_192, 12),
+            (4_097, 8_192, 12),
+            (1, 4_097, 14),
+            (1, 4_098, 12),
+        ] {
+            let mut text = (s as u16).to_be_bytes().to_vec();
+            text.resize(2 + after, 1);
+            let head = b"\x10\0\x06\0\0ende";
+            let header = [opening, head].concat();
+            let nonce = [0, 0, 0, 0, 0, 0, 0, 7, 0, 0, 0, 0];
+            let m = text.len();
+            let sealed = seal(1, 10, &KEY, &nonce, &header, &text, m + 16);
+            let (sealed, _) = sealed.unwrap();
+            let (ciphertext, tag) = sealed.split_at(m);
+            let fields = [book::field(0x11, ciphertext), book::field(0x12, tag)].concat();
+            // with no close behind it: 14 where the unit is accepted
+            let answer = check(&KEY, &[&header, &fields[..]].concat());
+            assert_eq!(answer, Err(number), "{s} with {after} bytes after it");
+        }
+    }
+
+    /// Books laid out from a unit that is not allowed, and from the longest that is.
+    #[test]
+    fn units_not_allowed() {
+        for (to, s, t, expected) in [
+            (b"de", 4_096, 4_096, Ok((1, 519))),
+            (b"de", 4_096, 4_097, Err(14)),
+            (b"de", 1, 4_097, Err(12)),
+            (b"de", 4_097, 0, Err(12)),
+            (b"de", 0, 3, Err(12)),
+            (b"en", 1, 0, Err(11)),
+            (b"dE", 1, 0, Err(11)),
+        ] {
+            let mut book = Book::random(&mut Random::new(13), (1, 6));
+            book.units.push(Unit {
+                from: *b"en",
+                to: *to,
+                source: vec![1; s],
+                target: vec![2; t],
+            });
+            let (bytes, _) = book.laid_out();
+            assert_eq!(check(&book.key, &bytes), expected, "({s}, {t})");
+            let again = Book::taken_apart(&book.key, &bytes);
+            assert_eq!(again.is_some(), expected.is_ok(), "({s}, {t})");
+        }
+    }
+
+    /// What is accepted is what some book is laid out as, and the counts are those of the layout.
+    #[test]
+    fn accepted_is_what_is_laid_out() {
+        let mut random = Random::new(14);
+        let mut accepted = 0;
+        for suite in SUITES {
+            let mut book = Book::random(&mut random, suite);
+            for _ in 0..3 {
+                let (s, t) = (1 + random.below(30), random.below(30));
+                book.units.push(Unit {
+                    from: *b"en",
+                    to: *b"ga",
+                    source: random.some_bytes(s),
+                    target: random.some_bytes(t),
+                });
+            }
+            let (bytes, calls) = book.laid_out();
+            assert_eq!(check(&book.key, &bytes), Ok((3, calls as u64)));
+            for _ in 0..300 {
+                let mut bytes = bytes.clone();
+                for _ in 0..random.below(3) {
+                    let at = random.below(bytes.len());
+                    bytes[at] = random.one_of(&[0, 1, 0x10, 0x12, 0x20, bytes[at], b'e', 0xFF]);
+                }
+                let answer = check(&book.key, &bytes);
+                let laid_out = Book::taken_apart(&book.key, &bytes).map(|book| {
+                    let (_, calls) = book.laid_out();
+                    (book.units.len() as u64, calls as u64)
+                });
+                assert_eq!(answer.ok(), laid_out, "suite {suite:?}");
+                accepted += usize::from(answer.is_ok());
+            }
+        }
+        assert!((800..1_600).contains(&accepted), "{accepted}");
+    }
+}

@@ -1,0 +1,494 @@
+//! Refusals of checking: each cause at each of its places, and of several causes the first.
+
+mod common;
+
+use common::causes::{self, first_is_given, sets, Cause as _};
+use common::checking::{accepts, check_gives, checked, refuses, Answer};
+use common::parts::{close_fields, random_book, unit_fields, written, Parts};
+use common::writing::unit;
+use common::{codes_with_each_byte, UNLISTED};
+use reference::book::{field, Book};
+use reference::cipher::{listed, SUITES};
+use reference::random::Random;
+
+const SEED: u64 = 0x4352_4546;
+
+/// The causes in the order in which they are given; the close's are those after `Lengths`.
+#[derive(Clone, Copy, Debug, PartialEq)]
+enum Cause {
+    Key,
+    OpeningFields,
+    Suite,
+    UnitHead,
+    FullBook,
+    UnitNumber,
+    Languages,
+    UnitRest,
+    UnitTag,
+    Lengths,
+    CloseFields,
+    Count,
+    CloseTag,
+    LeftOver,
+}
+
+use Cause::*;
+
+/// All of them but `FullBook`, which takes a long book.
+const CAUSES: [Cause; 13] = [
+    Key,
+    OpeningFields,
+    Suite,
+    UnitHead,
+    UnitNumber,
+    Languages,
+    UnitRest,
+    UnitTag,
+    Lengths,
+    CloseFields,
+    Count,
+    CloseTag,
+    LeftOver,
+];
+
+impl causes::Cause for Cause {
+    fn number(self) -> u32 {
+        match self {
+            Suite => 1,
+            Key => 2,
+            UnitTag | CloseTag => 8,
+            Languages => 11,
+            Lengths => 12,
+            FullBook => 13,
+            OpeningFields | UnitHead | UnitRest | CloseFields | LeftOver => 14,
+            UnitNumber | Count => 15,
+        }
+    }
+}
+
+/// Four letters that are no allowed pair.
+fn bad_codes(random: &mut Random) -> [u8; 4] {
+    let mut codes = *b"ende";
+    match random.below(3) {
+        0 => codes = *b"dede",
+        _ => {
+            let byte = random.one_of(&[0, b' ', b'0', b'A', b'Z', b'`', b'{', 0xE1]);
+            codes[random.below(4)] = byte;
+        }
+    }
+    codes
+}
+
+/// A text with this s and so many bytes after it.
+fn text(random: &mut Random, s: usize, after: usize) -> Vec<u8> {
+    let s = (s as u16).to_be_bytes();
+    [&s[..], &random.some_bytes(after)].concat()
+}
+
+/// A text whose s or t is out of range.
+fn bad_text(random: &mut Random) -> Vec<u8> {
+    let after = 1 + random.below(30);
+    let (s, after) = random.one_of(&[
+        (0, after),
+        (after + 1, after),
+        (after + 256, after),
+        (0xFFFF, after),
+        (4_097, 4_097),
+        (4_097, 8_192),
+        (1, 4_098),
+        (4_095, 8_192),
+    ]);
+    text(random, s, after)
+}
+
+/// Spoils one of the fields: another tag, another length, or bytes missing from somewhere in it on.
+fn spoil(random: &mut Random, fields: &mut Vec<Vec<u8>>, at: usize) {
+    let one = &mut fields[at];
+    match random.below(4) {
+        0 => {
+            let tags = [0x00, 0x01, 0x02, 0x10, 0x11, 0x12, 0x20, 0x21, 0xFF];
+            let others: Vec<u8> = tags.into_iter().filter(|tag| *tag != one[0]).collect();
+            one[0] = random.one_of(&others);
+        }
+        1 => one[1] ^= random.one_of(&[1, 0x40, 0x80]),
+        2 => one[2] = one[2].wrapping_add(random.one_of(&[1, 255])),
+        _ => {
+            let len = random.below(one.len());
+            one.truncate(len);
+            fields.truncate(at + 1);
+        }
+    }
+}
+
+/// Field 11 with too few or too many bytes.
+fn bad_ciphertext(random: &mut Random) -> Vec<u8> {
+    let len = random.one_of(&[0, 1, 2, 8_195, 8_196, 16_384]);
+    field(0x11, &random.some_bytes(len))
+}
+
+/// Key and bytes of a book whose last unit and close have these causes; before them stand the opening
+/// fields and units of `before`, spoiled only as the set says.
+fn spoiled(random: &mut Random, book: &Book, before: &Parts, set: &[Cause]) -> (Vec<u8>, Vec<u8>) {
+    let has = |cause| set.contains(&cause);
+    let key = match has(Key) {
+        true => {
+            let len = random.one_of(&[0, 1, 15, 17, 32]);
+            random.some_bytes(len)
+        }
+        false => book.key.to_vec(),
+    };
+    let running = before.units.len();
+    let number = match has(UnitNumber) {
+        true => running ^ random.one_of(&[1, 2, 0x100, 0x8000]),
+        false => running,
+    };
+    let codes = match has(Languages) {
+        true => bad_codes(random),
+        false => *b"ende",
+    };
+    let text = match has(Lengths) {
+        true => bad_text(random),
+        false => {
+            let s = 1 + random.below(20);
+            let t = random.below(20);
+            text(random, s, s + t)
+        }
+    };
+    let count = match has(Count) {
+        true => (running + 1) ^ random.one_of(&[1, 2, 0x100, 0x8000]),
+        false => running + 1,
+    };
+    let [head, mut ciphertext, mut tag] = unit_fields(book, running, number, codes, &text);
+    let [close_head, mut close_tag] = close_fields(book, running + 1, count);
+    if has(UnitTag) {
+        let sealed = match random.below(2) {
+            0 => &mut ciphertext,
+            _ => &mut tag,
+        };
+        let at = 3 + random.below(sealed.len() - 3);
+        sealed[at] ^= 1 << random.below(8);
+    }
+    if has(CloseTag) {
+        close_tag[3 + random.below(16)] ^= 1 << random.below(8);
+    }
+    let (number_field, suite_field) = before.opening.split_at(11);
+    let mut suite_field = suite_field.to_vec();
+    if has(Suite) {
+        let (cipher, steps) = random.one_of(&UNLISTED);
+        suite_field[3..].copy_from_slice(&[cipher, steps]);
+    }
+    let left_over = match has(LeftOver) {
+        true => {
+            let len = random.one_of(&[1, 2, 24, 40]);
+            random.some_bytes(len)
+        }
+        false => Vec::new(),
+    };
+
+    // 0 and 1 are the opening fields, 3 is the unit's head, 4 and 5 are its rest, 6 and 7 the close's
+    let mut fields = vec![
+        number_field.to_vec(),
+        suite_field,
+        before.units.concat(),
+        head,
+        ciphertext,
+        tag,
+        close_head,
+        close_tag,
+        left_over,
+    ];
+    if has(CloseFields) {
+        let at = random.one_of(&[6, 7]);
+        spoil(random, &mut fields, at);
+    }
+    if has(UnitRest) {
+        match random.below(3) {
+            0 => fields[4] = bad_ciphertext(random),
+            1 => spoil(random, &mut fields, 4),
+            _ => spoil(random, &mut fields, 5),
+        }
+    }
+    if has(UnitHead) {
+        spoil(random, &mut fields, 3);
+    }
+    if has(OpeningFields) {
+        let at = random.one_of(&[0, 1]);
+        spoil(random, &mut fields, at);
+    }
+    (key, fields.concat())
+}
+
+/// A case with these causes behind no unit or some.
+fn case(random: &mut Random, set: &[Cause], name: &str) -> Answer {
+    let (suite, units) = (random.one_of(&SUITES), random.below(3));
+    let book = random_book(random, suite, units, 10);
+    let before = Parts::of(&book);
+    let (key, book) = spoiled(random, &book, &before, set);
+    checked(&key, &book, name)
+}
+
+#[test]
+fn every_set_of_causes() {
+    let counts = first_is_given(SEED, &sets(&CAUSES), 1, case);
+    // how many sets begin with a cause of each number
+    let mut expected = [0; 17];
+    expected[0] = 1;
+    for (i, cause) in CAUSES.into_iter().rev().enumerate() {
+        expected[cause.number() as usize] += 1 << i;
+    }
+    assert_eq!(counts, expected);
+}
+
+#[test]
+fn each_cause_and_each_two() {
+    let mut sets = sets(&CAUSES);
+    sets.retain(|set| set.len() <= 2);
+    assert_eq!(sets.len(), 1 + 13 + 13 * 12 / 2);
+    first_is_given(SEED + 1, &sets, 30, case);
+}
+
+/// Behind 65,535 units: 13 before all but a malformed head.
+#[test]
+fn causes_in_a_full_book() {
+    let mut random = Random::new(SEED + 2);
+    let mut book = Book::random(&mut random, (1, 6));
+    book.units = (0..65_535).map(|_| unit(&mut random, 1, 0)).collect();
+    let before = Parts::of(&book);
+    for set in [
+        &[FullBook][..],
+        &[FullBook, UnitNumber],
+        &[FullBook, Languages],
+        &[FullBook, UnitRest],
+        &[FullBook, UnitTag],
+        &[FullBook, Lengths],
+        &[UnitHead, FullBook],
+        &[Suite, FullBook],
+        &[OpeningFields, FullBook],
+        &[Key, FullBook],
+    ] {
+        let (key, book) = spoiled(&mut random, &book, &before, set);
+        let name = format!("causes {set:?}, seed {:X}", SEED + 2);
+        check_gives(&key, &book, Err(set[0].number()), &name);
+    }
+}
+
+/// All 65,536 pairs of a cipher's byte and a steps byte in field 02.
+#[test]
+fn every_suite() {
+    let mut random = Random::new(SEED + 3);
+    let book = random_book(&mut random, (2, 10), 1, 20);
+    let (mut bytes, writer) = written(&book);
+    for cipher in 0..=255 {
+        for steps in 0..=255 {
+            (bytes[14], bytes[15]) = (cipher, steps);
+            match (cipher, steps) {
+                (2, 10) => accepts(&book.key, &bytes, 1, writer.calls, ""),
+                _ if listed(cipher, steps) => refuses(&book.key, &bytes, 8, "another suite"),
+                _ => refuses(&book.key, &bytes, 1, "unlisted"),
+            }
+        }
+    }
+}
+
+#[test]
+fn every_key_length() {
+    let mut random = Random::new(SEED + 4);
+    let book = random_book(&mut random, (1, 12), 2, 20);
+    let (bytes, writer) = written(&book);
+    for len in 0..=300 {
+        let mut key = random.some_bytes(len);
+        let start = len.min(16);
+        key[..start].copy_from_slice(&book.key[..start]);
+        match len {
+            16 => accepts(&key, &bytes, 2, writer.calls, ""),
+            _ => refuses(&key, &bytes, 2, ""),
+        }
+        if len != 16 {
+            refuses(&key, &[], 2, "no book");
+        }
+    }
+}
+
+/// Every byte at every place of the two codes, sealed along.
+#[test]
+fn every_byte_in_a_code() {
+    let mut random = Random::new(SEED + 5);
+    let (mut passed, mut equal) = (0, 0);
+    for (byte, codes) in codes_with_each_byte() {
+        let book = Book::random(&mut random, (1, 6));
+        let mut parts = Parts::of(&book);
+        parts.units = vec![unit_fields(&book, 0, 0, codes, &[0, 1, 2]).concat()];
+        parts.close = close_fields(&book, 1, 1).concat();
+        let bytes = parts.joined();
+        if !byte.is_ascii_lowercase() {
+            refuses(&book.key, &bytes, 11, "no letter");
+        } else if codes[..2] == codes[2..] {
+            refuses(&book.key, &bytes, 11, "the same code");
+            equal += 1;
+        } else {
+            accepts(&book.key, &bytes, 1, 7, "two codes");
+            passed += 1;
+        }
+    }
+    assert_eq!((passed, equal), (4 * 25, 4));
+}
+
+/// Where each field begins and ends: those before the close in a book with a unit of 11 bytes, those of
+/// the close in a book with no unit.
+const UNIT_BOOK: [(usize, usize); 5] = [(0, 11), (11, 16), (16, 25), (25, 41), (41, 60)];
+const EMPTY_BOOK: [(usize, usize); 2] = [(16, 21), (21, 40)];
+
+/// Every length in the head of each field, and every tag, in books that would get 8 next.
+#[test]
+fn every_field_head() {
+    let mut random = Random::new(SEED + 6);
+    let mut book = Book::random(&mut random, (1, 6));
+    let (mut empty, _) = written(&book);
+    book.units.push(unit(&mut random, 5, 6));
+    let (mut one, _) = written(&book);
+    empty[39] ^= 1;
+    one[59] ^= 1;
+    refuses(&book.key, &empty, 8, "the close's tag changed");
+    refuses(&book.key, &one, 8, "the unit's tag changed");
+    let places = UNIT_BOOK.map(|place| (&one, place)).into_iter();
+    for (bytes, (at, end)) in places.chain(EMPTY_BOOK.map(|place| (&empty, place))) {
+        let mut changed = bytes.clone();
+        for len in 0..=65_535u16 {
+            changed[at + 1..at + 3].copy_from_slice(&len.to_be_bytes());
+            // a ciphertext that ends before the close's tag is framed, and not that tag's
+            let number = if (at, len) == (25, 37) { 8 } else { 14 };
+            if usize::from(len) != end - at - 3 {
+                let name = format!("field at {at}, length {len}");
+                refuses(&book.key, &changed, number, &name);
+            }
+        }
+        let mut changed = bytes.clone();
+        for tag in 0..=255 {
+            changed[at] = tag;
+            if tag != bytes[at] {
+                refuses(
+                    &book.key,
+                    &changed,
+                    14,
+                    &format!("field at {at}, tag {tag:02X}"),
+                );
+            }
+        }
+    }
+}
+
+/// Every number in a unit's head and every count in the close's.
+#[test]
+fn every_number() {
+    let mut random = Random::new(SEED + 7);
+    for units in [0, 1] {
+        let book = random_book(&mut random, (1, 6), units + 1, 3);
+        let parts = Parts::of(&book);
+        let start = [&parts.opening[..], &parts.units[..units].concat()].concat();
+        for number in 0..=65_535usize {
+            let two = (number as u16).to_be_bytes();
+            let mut rest = parts.units[units].clone();
+            rest[3..5].copy_from_slice(&two);
+            let mut close = parts.close.clone();
+            close[3..5].copy_from_slice(&two);
+            if number != units {
+                let name = format!("number {number}");
+                check_gives(&book.key, &[&start[..], &rest].concat(), Err(15), &name);
+                check_gives(&book.key, &[&start[..], &close].concat(), Err(15), &name);
+            } else {
+                refuses(&book.key, &[&start[..], &rest].concat(), 14, "no close");
+                refuses(
+                    &book.key,
+                    &[&start[..], &close].concat(),
+                    8,
+                    "another count's tag",
+                );
+            }
+        }
+    }
+}
+
+/// What the library and the reference say of a book with one unit of this text, sealed.
+fn of_text(random: &mut Random, text: &[u8], name: &str) -> Answer {
+    let suite = random.one_of(&SUITES);
+    let book = Book::random(random, suite);
+    let mut parts = Parts::of(&book);
+    parts.units = vec![unit_fields(&book, 0, 0, *b"ende", text).concat()];
+    parts.close = close_fields(&book, 1, 1).concat();
+    checked(&book.key, &parts.joined(), name)
+}
+
+/// Texts with every s, of every length up to 40: 14 where the text is too short for a unit.
+#[test]
+fn every_short_text() {
+    let mut random = Random::new(SEED + 8);
+    for len in 0..2 {
+        let text = random.some_bytes(len);
+        assert_eq!(of_text(&mut random, &text, "too short"), Err(14));
+    }
+    for after in 0..=40 {
+        for s in (0..=after + 3).chain([256, 256 + after, 4_096, 0x8001, 0xFFFF]) {
+            let text = text(&mut random, s, after);
+            let answer = of_text(&mut random, &text, &format!("s {s} with {after} after it"));
+            let expected = match s {
+                _ if after == 0 => Err(14),
+                _ if s == 0 || s > after => Err(12),
+                _ => Ok((1, 6 + text.len().div_ceil(16) as u64)),
+            };
+            assert_eq!(answer, expected, "reference: s {s} with {after} after it");
+        }
+    }
+}
+
+/// Long texts: s and t at their limits, and a text at its limit.
+#[test]
+fn long_texts() {
+    let mut random = Random::new(SEED + 9);
+    for (s, after, number) in [
+        (4_096, 4_096, None),
+        (4_097, 4_097, Some(12)),
+        (4_096, 4_095, Some(12)),
+        (4_096, 8_192, None),
+        (4_095, 8_191, None),
+        (4_097, 8_192, Some(12)),
+        (4_095, 8_192, Some(12)),
+        (8_192, 8_192, Some(12)),
+        (1, 4_097, None),
+        (1, 4_098, Some(12)),
+        (0, 4_096, Some(12)),
+        (4_096, 8_193, Some(14)),
+        (4_097, 8_193, Some(14)),
+        (4_096, 16_000, Some(14)),
+    ] {
+        let text = text(&mut random, s, after);
+        let name = format!("s {s} with {after} after it");
+        let answer = of_text(&mut random, &text, &name);
+        assert_eq!(answer.err(), number, "reference: {name}");
+    }
+}
+
+/// Every byte behind the opening fields and behind a unit: a close has to begin with 20, a unit with 10.
+#[test]
+fn every_next_byte() {
+    let mut random = Random::new(SEED + 10);
+    for units in [0, 1] {
+        let book = random_book(&mut random, (1, 6), units, 20);
+        let (whole, writer) = written(&book);
+        let (start, close) = whole.split_at(whole.len() - 24);
+        for byte in 0..=255 {
+            let behind = [start, &[byte]].concat();
+            refuses(&book.key, &behind, 14, &format!("{byte:02X} alone"));
+            let as_close = [start, &[byte], &close[1..]].concat();
+            match byte {
+                0x20 => accepts(&book.key, &as_close, units as u64, writer.calls, ""),
+                _ => refuses(
+                    &book.key,
+                    &as_close,
+                    14,
+                    &format!("{byte:02X} and a close's rest"),
+                ),
+            }
+        }
+        refuses(&book.key, start, 14, "nothing");
+    }
+}

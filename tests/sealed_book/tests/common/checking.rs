@@ -1,0 +1,88 @@
+//! Checking in the library and in the reference, with every byte and number that is left compared.
+
+use std::hint::black_box;
+
+use reference::book::Book;
+use reference::check::check;
+use sealed_book::foreign::sb_check;
+use sealed_book::Checked;
+
+use super::{assert_same, pointer, refusal};
+
+/// Bytes before and after what is lent to be read.
+const GUARD: [u8; 32] = [0x5A; 32];
+
+/// Unit count and call total, or a refusal's number.
+pub type Answer = Result<(u64, u64), u32>;
+
+/// The numbers that a call finds, and leaves where it refuses, with guards around them.
+const MARKS: [u64; 7] = [
+    0x1111_1111_1111_1111,
+    0x2222_2222_2222_2222,
+    0x0123_4567_89AB_CDEF,
+    0x3333_3333_3333_3333,
+    0xFEDC_BA98_7654_3210,
+    0x4444_4444_4444_4444,
+    0x5555_5555_5555_5555,
+];
+
+/// Has the library check the book as C does, with null for a slice of length 0, and through the
+/// wrapper; holds all that is left to the answer.
+pub fn check_gives(key: &[u8], book: &[u8], answer: Answer, name: &str) {
+    let name = || format!("key {}, book {} bytes, {name}", key.len(), book.len());
+    let rooms = [key, book].map(|bytes| [&GUARD, bytes, &GUARD].concat());
+    let mut lent = rooms.clone();
+    let [key, book] = [0, 1].map(|i| &lent[i][GUARD.len()..lent[i].len() - GUARD.len()]);
+
+    let mut numbers = MARKS;
+    let place = numbers.as_mut_ptr();
+    // SAFETY: each slice is given with its length, and both numbers are in the array.
+    let returned = unsafe {
+        sb_check(
+            pointer(key),
+            key.len(),
+            pointer(book),
+            book.len(),
+            place.add(2),
+            place.add(4),
+        )
+    };
+    let mut expected = MARKS;
+    if let Ok((units, calls)) = answer {
+        (expected[2], expected[4]) = (units, calls);
+    }
+    assert_eq!(returned, answer.err().unwrap_or(0), "{}", name());
+    assert_eq!(numbers, expected, "units and calls, {}", name());
+
+    let expected = answer.map(|(units, calls)| Checked { units, calls });
+    let returned = sealed_book::check(key, book);
+    assert_eq!(returned, expected.map_err(refusal), "{}", name());
+    black_box(&mut lent);
+    for (lent, room) in lent.iter().zip(&rooms) {
+        assert_same(lent, room, || format!("lent to be read: {}", name()));
+    }
+}
+
+/// The same with the answer of the reference, which is returned. It is held against the layout, too:
+/// what is accepted is what some book is laid out as.
+pub fn checked(key: &[u8], book: &[u8], name: &str) -> Answer {
+    let answer = check(key, book);
+    check_gives(key, book, answer, name);
+    if let Ok(key) = key.try_into() {
+        let laid_out = Book::taken_apart(key, book);
+        assert_eq!(answer.is_ok(), laid_out.is_some(), "reference: {name}");
+    }
+    answer
+}
+
+/// The same, where it is known that the book is accepted, and with what counts.
+pub fn accepts(key: &[u8], book: &[u8], units: u64, calls: u64, name: &str) {
+    let answer = checked(key, book, name);
+    assert_eq!(answer, Ok((units, calls)), "reference: {name}");
+}
+
+/// The same, where it is known that the book is refused.
+pub fn refuses(key: &[u8], book: &[u8], number: u32, name: &str) {
+    let answer = checked(key, book, name);
+    assert_eq!(answer, Err(number), "reference: {name}");
+}
