@@ -51,18 +51,29 @@ module _ (kind : Kind) (formed : WellFormed kind) where
     left-total =
         left h .total ∙ left h .sum ∙ ap callTotal (left h .sealed) ∙ (λ j. callTotal (sealedOf kind (h .start) (same j) (close j)))
 
-  -- so that string is a book
+  -- so that string is a book, under the key that is named
+  module _ (h : History kind) {key x : List ℕ} (l : LeavesBook h key x) where
+    pub left-bookable : Bookable kind (h .start .suite) key (h .start .number) (unitsAdded h)
+    left-bookable = subst (λ (k : List ℕ). Bookable kind (h .start .suite) k (h .start .number) (unitsAdded h)) (l .under) (left h .bookable)
+
+    pub left-book : bookBytes kind (h .start .suite) key (h .start .number) (unitsAdded h) ≡ x
+    left-book =
+        sym (ap (λ (k : List ℕ). bookBytes kind (h .start .suite) k (h .start .number) (unitsAdded h)) (l .under))
+        ∙ sym (left-bytes h (unitsAdded h) refl (l .closed))
+        ∙ l .string
+
+    pub left-counted : length (unitsAdded h) ≡ after h .writer .count
+    left-counted = sym (left-count h (unitsAdded h) refl (l .closed))
+
   left-is : (h : History kind) {key x : List ℕ} {n t : ℕ} → LeavesBook h key x → after h .writer .count ≡ n → after h .writer .total ≡ t → IsBook kind key x n t
   left-is h l count total =
-      let suite = h .start .suite in
-      let number = h .start .number in
       record {
-        suite = suite;
-        number = number;
+        suite = h .start .suite;
+        number = h .start .number;
         units = unitsAdded h;
-        bookable = subst (λ (k : List ℕ). Bookable kind suite k number (unitsAdded h)) (l .under) (left h .bookable);
-        bytes = sym (ap (λ (k : List ℕ). bookBytes kind suite k number (unitsAdded h)) (l .under)) ∙ sym (left-bytes h (unitsAdded h) refl (l .closed)) ∙ l .string;
-        count = sym (left-count h (unitsAdded h) refl (l .closed)) ∙ count;
+        bookable = left-bookable h l;
+        bytes = left-book h l;
+        count = left-counted h l ∙ count;
         total = sym (left-total h (unitsAdded h) refl (l .closed)) ∙ total;
       }
 

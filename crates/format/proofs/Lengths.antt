@@ -101,16 +101,23 @@ module _ (kind : Kind) (suite : Suite) (key : List ℕ) (number : ℕ) where
   unfolding closeBytes
   length-closeBytes n = simp (length-append, length-field) (omega (arith, length-closeHeader kind n, length-closeSealed n))
 
+  pub unitsBytes-append : (n : ℕ) (us vs : List BookUnit)
+      → unitsBytes kind suite key number n (us ++ vs) ≡ unitsBytes kind suite key number n us ++ unitsBytes kind suite key number (n + length us) vs
+  unfolding unitsBytes
+  unitsBytes-append n [] vs = ap (λ (k : ℕ). unitsBytes kind suite key number k vs) (omega arith)
+  unitsBytes-append n (u ∷ us) vs =
+      let b : List ℕ = unitBytes kind suite key number n u in
+      let rest : List ℕ = unitsBytes kind suite key number (suc n) us in
+      ap (λ (x : List ℕ). b ++ x)
+      (unitsBytes-append (suc n) us vs ∙ ap (λ (k : ℕ). rest ++ unitsBytes kind suite key number k vs) (omega arith))
+      ∙ sym (append-assoc b rest (unitsBytes kind suite key number (n + length (u ∷ us)) vs))
+
   pub unitsBytes-snoc : (n : ℕ) (us : List BookUnit) (u : BookUnit)
       → unitsBytes kind suite key number n (us ++ u ∷ []) ≡ unitsBytes kind suite key number n us ++ unitBytes kind suite key number (n + length us) u
   unfolding unitsBytes
-  unitsBytes-snoc n [] u = append-nil (unitBytes kind suite key number n u) ∙ ap (λ (k : ℕ). unitBytes kind suite key number k u) (omega arith)
-  unitsBytes-snoc n (v ∷ us) u =
-      let b : List ℕ = unitBytes kind suite key number n v in
-      ap (λ (x : List ℕ). b ++ x)
-      (unitsBytes-snoc (suc n) us u
-      ∙ ap (λ (k : ℕ). unitsBytes kind suite key number (suc n) us ++ unitBytes kind suite key number k u) (omega arith))
-      ∙ sym (append-assoc b (unitsBytes kind suite key number (suc n) us) (unitBytes kind suite key number (n + length (v ∷ us)) u))
+  unitsBytes-snoc n us u =
+      unitsBytes-append n us (u ∷ [])
+      ∙ ap (λ (x : List ℕ). unitsBytes kind suite key number n us ++ x) (append-nil (unitBytes kind suite key number (n + length us) u))
 
   -- a book's length counts its first fields and its close too
   pub length-unitsBytes : (n : ℕ) (us : List BookUnit) → Each (Allowed kind) us

@@ -2,14 +2,15 @@
 use mathlib.Core.Path.{_≡_, refl, sym, ap, _∙_}
 use mathlib.Core.Bool.{true, and-eq-true-iff}
 use mathlib.Core.List.{List, [], _∷_, _++_, append-assoc}
-use Prim.Native.Nat.{ℕ, _^_, _<_}
+use Prim.Native.Nat.{ℕ, _-_, _^_, _≤_, _<_}
 use native.Mathlib.Omega.{arith}
-use lib.ListN.{length, take}
-use lib.Seq.{drop-drop}
+use lib.ListN.{length, take, drop, length-drop}
+use lib.Seq.{take-all, drop-drop}
 use Rattle.bits.specs.Bytes.{Bytes, bigEndian, numberOf}
 use Rattle.bits.proofs.BigEndian.{length-bigEndian, numberOf-lt, bigEndian-numberOf, numberOf-bigEndian}
 use Rattle.bits.proofs.Lists.{part-at}
 use Rattle.suites.specs.declared.refusal.Answer.the-variants.{Done}
+use Rattle.suites.specs.declared.refusal.Refusal.the-variants.{SuiteNotListed, FieldMalformed}
 use Rattle.suites.specs.declared.suite.Suite.{Suite}
 use Rattle.suites.specs.Suite.{listed}
 use Rattle.limits.proofs.Passed.{unless-passed, unless-passes}
@@ -100,3 +101,16 @@ opening-told s bytes e =
     let suite = unless-passed (listed (openingSuite s .cipher) (openingSuite s .steps)) _ _ (has .1) in
     let both = and-eq-true-iff (hasField 0x01 8 s) (hasField 0x02 2 (afterField 8 s)) .0 (has .0) in
     (suite .0, number-fits s bytes (both .0) (both .1), opening-held s bytes (both .0) (both .1))
+
+-- the part of a string from a place on
+pub part-rest : (at : ℕ) (s : List ℕ) → take (length s - at) (drop at s) ≡ drop at s
+part-rest at s = take-all (length s - at) (drop at s) (rw length-drop (omega arith))
+
+-- opening fields that pass their tests
+pub opening-passed : (s : List ℕ) → openingTests s ≡ Done → (listed (openingSuite s .cipher) (openingSuite s .steps) ≡ true) × (16 ≤ length s)
+unfolding openingTests hasOpening
+opening-passed s e =
+    let has = unless-passed (hasOpening s) FieldMalformed _ e in
+    let suite = unless-passed (listed (openingSuite s .cipher) (openingSuite s .steps)) SuiteNotListed Done (has .1) in
+    let both = and-eq-true-iff (hasField 0x01 8 s) (hasField 0x02 2 (afterField 8 s)) .0 (has .0) in
+    (suite .0, omega (arith, length-after 0x01 8 s (both .0), field-told 0x02 2 (afterField 8 s) (both .1)))

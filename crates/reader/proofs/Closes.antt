@@ -24,8 +24,10 @@ use Rattle.parser.specs.declared.frame.Frame.the-variants.{Close}
 use Rattle.parser.specs.Frame.{closeSealed, afterClose, frameOf, frameAt}
 use Rattle.parser.proofs.Fields.{bytes-value, bytes-after}
 use Rattle.parser.proofs.Frames.{close-here, CloseTold, close-told}
-use Rattle.reader.specs.Check.{closeAlong, closeAgrees, unitSealTests, closeSealTests, withSeal, checkedAt}
-use Rattle.reader.proofs.Seals.{sealedAt, openedAt, agreesAt, text-told, text-here, none-left, close-sealed}
+use Rattle.seals.specs.Seal.{closeAlong, closeAgrees, unitSealTests, closeSealTests}
+use Rattle.seals.proofs.Seals.{sealedAt, openedAt, agreesAt, text-told, text-here, none-left}
+use Rattle.reader.specs.Check.{withSeal, checkedAt}
+use Rattle.reader.proofs.Sealed.{close-sealed}
 
 bytes-sealed : (kind : Kind) (s : List ℕ) → Bytes s → Bytes (closeSealed kind s)
 unfolding closeSealed

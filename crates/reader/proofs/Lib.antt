@@ -1,7 +1,6 @@
-pub mod Seals
+pub mod Sealed
 pub mod Units
 pub mod Closes
 pub mod Walk
 pub mod Exact
-pub mod Verified
 pub mod Turns

@@ -1,46 +1,25 @@
--- One turn of the walk over the frames of a book of the base's kind, and the tests before it.
+-- One turn of the walk over the frames of a book of the base's kind.
 use mathlib.Core.Path.{_≡_, ap, _∙_}
-use mathlib.Core.Bool.{true, and-eq-true-iff}
 use mathlib.Core.List.{List}
 use Prim.Native.Nat.{ℕ, suc, _+_, _-_, _≤_}
 use native.Mathlib.Omega.{arith}
-use lib.ListN.{length, take, drop, length-drop}
-use lib.Seq.{take-all, drop-drop}
+use lib.ListN.{drop}
+use lib.Seq.{drop-drop}
 use Rattle.calls.specs.Tweak.{blocksOf}
-use Rattle.suites.specs.declared.refusal.Answer.the-variants.{Done}
 use Rattle.suites.specs.declared.refusal.Refusal.{Refusal}
-use Rattle.suites.specs.declared.refusal.Refusal.the-variants.{SuiteNotListed, FieldMalformed}
 use Rattle.suites.specs.declared.suite.Suite.{Suite}
-use Rattle.suites.specs.Suite.{listed}
-use Rattle.limits.proofs.Passed.{unless-passed}
-use Rattle.fields.specs.Field.{hasField, afterField}
 use Rattle.fields.specs.Kind.{kind10}
-use Rattle.fields.proofs.Fields.{field-told}
 use Rattle.parser.specs.declared.frame.Frame.{Frame}
 use Rattle.parser.specs.declared.frame.Frame.the-variants.{Unit, Close, Refused as FrameRefused}
 use Rattle.parser.specs.Frame.{mostUnits, afterUnit, frameAt}
-use Rattle.parser.specs.Opening.{hasOpening, openingSuite, openingTests}
-use Rattle.parser.proofs.Fields.{length-after}
 use Rattle.parser.proofs.Frames.{UnitTold, unit-told}
-use Rattle.reader.specs.Check.{unitSealTests, closeSealTests, checkedAt, unitCalls, closeCalls, byFrame, walk}
+use Rattle.seals.specs.Seal.{unitSealTests, closeSealTests}
+use Rattle.seals.proofs.Verified.{after-unit-is}
+use Rattle.reader.specs.Check.{checkedAt, unitCalls, closeCalls, byFrame, walk}
 use Rattle.reader.specs.declared.check.CheckAnswer.{CheckAnswer}
 use Rattle.reader.specs.declared.check.CheckAnswer.the-variants.{Accepted, Refused as CheckRefused}
-use Rattle.reader.proofs.Seals.{unit-sealed}
-use Rattle.reader.proofs.Verified.{after-unit-is}
+use Rattle.reader.proofs.Sealed.{unit-sealed}
 use Rattle.reader.proofs.Walk.{walk-step}
-
--- the part of a string from a place on
-pub part-rest : (at : ℕ) (s : List ℕ) → take (length s - at) (drop at s) ≡ drop at s
-part-rest at s = take-all (length s - at) (drop at s) (rw length-drop (omega arith))
-
--- opening fields that pass their tests
-pub opening-passed : (s : List ℕ) → openingTests s ≡ Done → (listed (openingSuite s .cipher) (openingSuite s .steps) ≡ true) × (16 ≤ length s)
-unfolding openingTests hasOpening
-opening-passed s e =
-    let has = unless-passed (hasOpening s) FieldMalformed _ e in
-    let suite = unless-passed (listed (openingSuite s .cipher) (openingSuite s .steps)) SuiteNotListed Done (has .1) in
-    let both = and-eq-true-iff (hasField 0x01 8 s) (hasField 0x02 2 (afterField 8 s)) .0 (has .0) in
-    (suite .0, omega (arith, length-after 0x01 8 s (both .0), field-told 0x02 2 (afterField 8 s) (both .1)))
 
 module _ (suite : Suite) (key : List ℕ) (number : ℕ) where
   -- a unit that passes its tests

@@ -28,8 +28,10 @@ use Rattle.parser.specs.declared.frame.Frame.the-variants.{Unit}
 use Rattle.parser.specs.Frame.{mostUnits, headerBytes, frameDetails, frameFrom, frameTo, afterHeader, frameSealed, afterUnit, frameOf, frameAt}
 use Rattle.parser.proofs.Fields.{bytes-value, bytes-after}
 use Rattle.parser.proofs.Frames.{unitFrame, unit-here, UnitTold, unit-told}
-use Rattle.reader.specs.Check.{unitAlong, unitOpened, unitAgrees, unitSealTests, closeSealTests, withSeal, checkedAt}
-use Rattle.reader.proofs.Seals.{sealedAt, openedAt, agreesAt, text-told, text-here, unit-sealed}
+use Rattle.seals.specs.Seal.{unitAlong, unitOpened, unitAgrees, unitSealTests, closeSealTests}
+use Rattle.seals.proofs.Seals.{sealedAt, openedAt, agreesAt, text-told, text-here}
+use Rattle.reader.specs.Check.{withSeal, checkedAt}
+use Rattle.reader.proofs.Sealed.{unit-sealed}
 
 -- the parts of a unit that is read, whose text has m bytes, are bytes
 module _ (kind : Kind) (s : List ℕ) (b : Bytes s) where
@@ -203,3 +205,6 @@ module _ (kind : Kind) (suite : Suite) (key : List ℕ) (number : ℕ) (long : l
           ∙ ap (λ (o : Answer). frameOf o (Unit (length t))) outcome,
       ap (afterUnit kind (length t)) s-is ∙ read-back .3,
     )
+
+    pub unit-opened : unitOpened kind suite key number n (length t) (unitBytes kind suite key number n u ++ rest) ≡ t
+    unit-opened = ap (unitOpened kind suite key number n (length t)) s-is ∙ opened-back .1

@@ -5,10 +5,10 @@ use mathlib.Core.List.{List, _++_}
 use Prim.Native.Nat.{ℕ, _+_, _-_, _*_, _%_, _^_, _≤_, min}
 use native.Mathlib.Nat.{zero-add}
 use native.Mathlib.Omega.{arith}
-use lib.ListN.{length, take, drop, length-append, length-drop, take-append-drop}
-use lib.Seq.{take-all, take-at, drop-at, length-take-le}
+use lib.ListN.{length, take, drop, length-append, length-drop}
+use lib.Seq.{take-all, take-at, length-take-le}
 use Rattle.calls.specs.Pieces.{piece, through}
-use Rattle.calls.specs.Sealing.{opening, openingTag}
+use Rattle.calls.specs.Sealing.{openingTag}
 use Rattle.calls.specs.Tweak.{blocksOf}
 use Rattle.calls.proofs.ByBlocks.{opening-is, length-through}
 use Rattle.calls.proofs.Strung.{strung-ext, strung-add}
@@ -93,29 +93,3 @@ pub agrees-is : (s : Suite) (key nonce h x : List ℕ) → 16 ≤ length x
 unfolding agrees
 agrees-is s key nonce h x long =
     ap (sameBytes 16 (openingTag (enciphers s key) (deciphers s key) nonce h (ciphertext x))) (take-all 16 (drop (length x - 16) x) (rw length-drop (omega arith)))
-
--- ciphertext and tag apart
-module _ (c tag : List ℕ) (whole : length tag ≡ 16) where
-  text-end : length c ≡ length (c ++ tag) - 16
-  text-end = omega (arith, length-append c tag)
-
-  pub apart-ciphertext : ciphertext (c ++ tag) ≡ c
-  apart-ciphertext = take-at c tag (length (c ++ tag) - 16) text-end
-
-  pub apart-tag : drop (length (c ++ tag) - 16) (c ++ tag) ≡ tag
-  apart-tag = drop-at c tag (length (c ++ tag) - 16) text-end
-
-  pub apart-agrees : (s : Suite) (key nonce h : List ℕ)
-      → sameBytes 16 (openingTag (enciphers s key) (deciphers s key) nonce h c) tag ≡ agrees (s .cipher) (s .steps) key nonce h (c ++ tag)
-  unfolding agrees
-  apart-agrees s key nonce h = λ i. sameBytes 16 (openingTag (enciphers s key) (deciphers s key) nonce h (sym apart-ciphertext i)) (sym apart-tag i)
-
-  pub apart-opened : (s : Suite) (key nonce h : List ℕ)
-      → opened (s .cipher) (s .steps) key nonce h (c ++ tag) ≡ through (deciphers s key) (enciphers s key) nonce (length c) 0 c
-  unfolding opened
-  apart-opened s key nonce h = ap (opening (enciphers s key) (deciphers s key) nonce h) apart-ciphertext ∙ opening-is (enciphers s key) (deciphers s key) nonce h c
-
--- and side by side
-pub sealed-parts : (x : List ℕ) → 16 ≤ length x → ciphertext x ++ take 16 (drop (length x - 16) x) ≡ x
-sealed-parts x long =
-    ap (λ (l : List ℕ). ciphertext x ++ l) (take-all 16 (drop (length x - 16) x) (rw length-drop (omega arith))) ∙ take-append-drop (length x - 16) x

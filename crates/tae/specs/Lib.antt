@@ -1,3 +1,2 @@
 pub mod Open
-pub mod Verify
 pub mod Demand2

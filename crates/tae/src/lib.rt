@@ -1,3 +1,2 @@
 // Opening what was sealed, and demand 2.
 pub mod open;
-pub mod verify;

@@ -1,10 +1,10 @@
 // Runs the cases that another implementation made and writes what comes out. The file `stdout` beside this folder is made from the
 // same cases by tests/expected.
+use opening::verify::VerifyAnswer;
 use reader::check::CheckAnswer;
 use sealing::seal::SealAnswer;
 use suites::suite::Suite;
 use tae::open::OpenAnswer;
-use tae::verify::VerifyAnswer;
 ghost use mathlib.Core.Path.{_≡_};
 ghost use Prim.Native.Nat.{_<_, _≤_};
 ghost use lib.ListN.{length};
@@ -158,7 +158,7 @@ fn run_seal(suite: Suite, key: &[u8], nonce: &[u8], header: &[u8], text: &[u8]) 
 
 // The text's first two bytes.
 fn run_verify(suite: Suite, key: &[u8], nonce: &[u8], header: &[u8], sealed: &[u8]) {
-    match tae::verify::verify(suite, key, nonce, header, sealed) {
+    match opening::verify::verify(suite, key, nonce, header, sealed) {
         VerifyAnswer::Agrees(first, second) => {
             write_byte(first);
             write_byte(second);

@@ -10,7 +10,7 @@ use Rattle.fields.specs.Kind.{kind10}
 use Rattle.parser.specs.Frame.{mostUnits}
 use Rattle.parser.specs.Opening.{openingNumber, openingSuite, afterOpening}
 use Rattle.reader.specs.Check.{walk, checkTests, afterTests, checkAnswer}
-use Rattle.reader.proofs.Turns.{part-rest, opening-passed}
+use Rattle.parser.proofs.Openings.{part-rest, opening-passed}
 use Rattle.reader.proofs.check.check.Statement.{statement}
 use Rattle.reader.proofs.check.check.Tie as tie
 

@@ -6,7 +6,8 @@ use Rattle.fields.specs.Kind.{kind10}
 use Rattle.parser.specs.declared.frame.Frame.{Frame}
 use Rattle.parser.specs.declared.frame.Frame.the-variants.{Unit, Close}
 use Rattle.parser.specs.Frame.{frameOf}
-use Rattle.reader.specs.Check.{unitSealTests, closeSealTests, withSeal, checkedAt}
+use Rattle.seals.specs.Seal.{unitSealTests, closeSealTests}
+use Rattle.reader.specs.Check.{withSeal, checkedAt}
 use Rattle.reader.proofs.check.checked_at.Statement.{statement}
 use Rattle.reader.proofs.check.checked_at.Tie as tie
 

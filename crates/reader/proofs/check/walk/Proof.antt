@@ -9,7 +9,8 @@ use Rattle.parser.specs.declared.frame.Frame.the-variants.{Unit}
 use Rattle.parser.specs.Frame.{mostUnits}
 use Rattle.parser.proofs.Frames.{UnitTold}
 use Rattle.reader.specs.Check.{checkedAt, walk}
-use Rattle.reader.proofs.Turns.{part-rest, unit-there, walkFrom, turn-refused, turn-close, turn-unit}
+use Rattle.parser.proofs.Openings.{part-rest}
+use Rattle.reader.proofs.Turns.{unit-there, walkFrom, turn-refused, turn-close, turn-unit}
 use Rattle.reader.proofs.check.walk.Statement.{statement}
 use Rattle.reader.proofs.check.walk.Tie as tie
 

@@ -1,0 +1,78 @@
+// The functions for C that read a book, as include/sealed_book.h declares them.
+use fetch::unit::FetchAnswer;
+use reader::check::CheckAnswer;
+ghost use mathlib.Core.Path.{_≡_};
+ghost use Rattle.fields.specs.Kind.{writerKind};
+ghost use Rattle.reader.specs.Check.{checkAnswer};
+ghost use Rattle.walk.specs.Ciphertext.{ciphertextPlace};
+ghost use Rattle.fetch.specs.Fetch.{fetchAnswer, fetchBuffer, placedAnswer, placedBuffer};
+ghost use Rattle.c_reader.specs.Read.{checkReturned, checkUnits, checkCalls, fetchReturned, fetchSource, fetchTarget};
+
+#[no_mangle]
+pub extern "C" fn sb_check(key: &[u8], book: &[u8], units: &mut u64, calls: &mut u64) -> u32
+    ensures { λ r. ⌜ (r ≡ checkReturned (checkAnswer writerKind (now (key .entry)) (now (book .entry)))) × (now (units .exit) ≡ checkUnits (checkAnswer writerKind (now (key .entry)) (now (book .entry))) (now (units .entry))) × (now (calls .exit) ≡ checkCalls (checkAnswer writerKind (now (key .entry)) (now (book .entry))) (now (calls .entry))) ⌝ }
+{
+    let answer = reader::check::check(key, book);
+    match answer {
+        CheckAnswer::Refused(why) => why.number(),
+        CheckAnswer::Accepted(count, total) => {
+            *units = count;
+            *calls = total;
+            0
+        }
+    }
+}
+
+#[no_mangle]
+pub extern "C" fn sb_fetch(
+    key: &[u8],
+    book: &[u8],
+    k: u64,
+    out: &mut [u8],
+    source: &mut u64,
+    target: &mut u64,
+) -> u32
+    ensures { λ r. ⌜ (r ≡ fetchReturned (fetchAnswer writerKind (now (key .entry)) (now (book .entry)) k (now (out .entry)))) × (now (out .exit) ≡ fetchBuffer writerKind (now (key .entry)) (now (book .entry)) k (now (out .entry))) × (now (source .exit) ≡ fetchSource (fetchAnswer writerKind (now (key .entry)) (now (book .entry)) k (now (out .entry))) (now (source .entry))) × (now (target .exit) ≡ fetchTarget (fetchAnswer writerKind (now (key .entry)) (now (book .entry)) k (now (out .entry))) (now (target .entry))) ⌝ }
+{
+    let answer = fetch::unit::fetch(key, book, k, out);
+    match answer {
+        FetchAnswer::Refused(why) => why.number(),
+        FetchAnswer::Fetched(s, t) => {
+            *source = s as u64;
+            *target = t as u64;
+            0
+        }
+    }
+}
+
+#[no_mangle]
+pub extern "C" fn sb_fetch_at(
+    key: &[u8],
+    book: &[u8],
+    number: u64,
+    at: usize,
+    out: &mut [u8],
+    source: &mut u64,
+    target: &mut u64,
+) -> u32
+    ensures { λ r. ⌜ (r ≡ fetchReturned (placedAnswer writerKind (now (key .entry)) (now (book .entry)) number at (now (out .entry)))) × (now (out .exit) ≡ placedBuffer writerKind (now (key .entry)) (now (book .entry)) number at (now (out .entry))) × (now (source .exit) ≡ fetchSource (placedAnswer writerKind (now (key .entry)) (now (book .entry)) number at (now (out .entry))) (now (source .entry))) × (now (target .exit) ≡ fetchTarget (placedAnswer writerKind (now (key .entry)) (now (book .entry)) number at (now (out .entry))) (now (target .entry))) ⌝ }
+{
+    let answer = fetch::unit::fetch_placed(key, book, number, at, out);
+    match answer {
+        FetchAnswer::Refused(why) => why.number(),
+        FetchAnswer::Fetched(s, t) => {
+            *source = s as u64;
+            *target = t as u64;
+            0
+        }
+    }
+}
+
+#[no_mangle]
+pub extern "C" fn sb_ciphertext(book: &[u8], k: u64, at: &mut u64, len: &mut u64)
+    ensures { λ r. ⌜ (now (at .exit) ≡ ciphertextPlace writerKind k (now (book .entry)) .at) × (now (len .exit) ≡ ciphertextPlace writerKind k (now (book .entry)) .len) ⌝ }
+{
+    let part = walk::ciphertext::place(book, k);
+    *at = part.at as u64;
+    *len = part.len as u64;
+}

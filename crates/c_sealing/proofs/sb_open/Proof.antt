@@ -1,0 +1,33 @@
+-- By cases on the answer.
+use mathlib.Core.Path.{sym, ap, _∙_}
+use borrow.Author.Needs.{needs}
+use Rattle.c_sealing.specs.Sealed.{openReturned, openLength}
+use Rattle.c_sealing.proofs.sb_open.Statement.{statement}
+use Rattle.c_sealing.proofs.sb_open.Tie as tie
+
+returns : tie.Need-returns
+returns c =
+    let h = c .before .before .before .before .before .before in
+    let a = h .before .before .before .before .before .before .before .args in
+    let e = sym (c .before .before .answer .given .1) ∙ h .open .ensures .0 in
+    (c .number .ensures ∙ ap openReturned e, h .open .ensures .1, ap (λ r. openLength r (a .len .now)) e)
+
+returns-2 : tie.Need-returns-2
+returns-2 c =
+    let h = c .before .before .before .before .before in
+    let a = h .before .before .before .before .before .before .before .args in
+    let e = sym (c .before .answer2 .given .1) ∙ h .open .ensures .0 in
+    (ap openReturned e, h .open .ensures .1, ap (λ r. openLength r (a .len .now)) e)
+
+pub sb-open-spec : {M : Type 1} → statement M
+sb-open-spec =
+    tie.close
+    (tie.spec
+    (λ c κs. search needs)
+    (λ c. search needs)
+    (λ c κs. search needs)
+    (λ c. search needs)
+    (λ c. search needs)
+    returns
+    (λ c. search needs)
+    returns-2)

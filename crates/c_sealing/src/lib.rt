@@ -1,0 +1,56 @@
+// The functions for C that seal and open, as include/sealed_book.h declares them.
+use sealing::seal::SealAnswer;
+use suites::suite::Suite;
+use tae::open::OpenAnswer;
+ghost use mathlib.Core.Path.{_≡_};
+ghost use Rattle.tae.specs.Open.{openAnswer, openBuffer};
+ghost use Rattle.sealing.specs.Seal.{sealAnswer, sealBuffer};
+ghost use Rattle.c_sealing.specs.Sealed.{sealReturned, sealLength, sealCalls, openReturned, openLength};
+
+#[no_mangle]
+pub extern "C" fn sb_seal(
+    cipher: u8,
+    steps: u8,
+    key: &[u8],
+    nonce: &[u8],
+    header: &[u8],
+    text: &[u8],
+    out: &mut [u8],
+    len: &mut u64,
+    calls: &mut u64,
+) -> u32
+    ensures { λ r. ⌜ (r ≡ sealReturned (sealAnswer cipher steps (now (key .entry)) (now (nonce .entry)) (now (header .entry)) (now (text .entry)) (now (out .entry)))) × (now (out .exit) ≡ sealBuffer cipher steps (now (key .entry)) (now (nonce .entry)) (now (header .entry)) (now (text .entry)) (now (out .entry))) × (now (len .exit) ≡ sealLength (sealAnswer cipher steps (now (key .entry)) (now (nonce .entry)) (now (header .entry)) (now (text .entry)) (now (out .entry))) (now (len .entry))) × (now (calls .exit) ≡ sealCalls (sealAnswer cipher steps (now (key .entry)) (now (nonce .entry)) (now (header .entry)) (now (text .entry)) (now (out .entry))) (now (calls .entry))) ⌝ }
+{
+    let answer = sealing::seal::seal(Suite { cipher, steps }, key, nonce, header, text, out);
+    match answer {
+        SealAnswer::Refused(why) => why.number(),
+        SealAnswer::Sealed(n, count) => {
+            *len = n as u64;
+            *calls = count as u64;
+            0
+        }
+    }
+}
+
+#[no_mangle]
+pub extern "C" fn sb_open(
+    cipher: u8,
+    steps: u8,
+    key: &[u8],
+    nonce: &[u8],
+    header: &[u8],
+    sealed: &[u8],
+    out: &mut [u8],
+    len: &mut u64,
+) -> u32
+    ensures { λ r. ⌜ (r ≡ openReturned (openAnswer cipher steps (now (key .entry)) (now (nonce .entry)) (now (header .entry)) (now (sealed .entry)) (now (out .entry)))) × (now (out .exit) ≡ openBuffer cipher steps (now (key .entry)) (now (nonce .entry)) (now (header .entry)) (now (sealed .entry)) (now (out .entry))) × (now (len .exit) ≡ openLength (openAnswer cipher steps (now (key .entry)) (now (nonce .entry)) (now (header .entry)) (now (sealed .entry)) (now (out .entry))) (now (len .entry))) ⌝ }
+{
+    let answer = tae::open::open(Suite { cipher, steps }, key, nonce, header, sealed, out);
+    match answer {
+        OpenAnswer::Refused(why) => why.number(),
+        OpenAnswer::Opened(m) => {
+            *len = m as u64;
+            0
+        }
+    }
+}

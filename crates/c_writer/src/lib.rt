@@ -1,0 +1,99 @@
+// The functions for C that write a book, as include/sealed_book.h declares them.
+use returned::code;
+use suites::refusal::Answer;
+use suites::suite::Suite;
+use writer::Writer;
+ghost use mathlib.Core.Path.{_≡_};
+ghost use lib.ListN.{length};
+ghost use Rattle.fields.specs.Kind.{writerKind};
+ghost use Rattle.fields.specs.Unit.{unitOf};
+ghost use Rattle.writer.specs.Writer.{startOutcome, startWriter, startBuffer, addOutcome, addWriter, addBuffer, closeOutcome, closeWriter, closeBuffer};
+ghost use Rattle.writer_bytes.specs.WriterBytes.{writerOf, writerBytes};
+ghost use Rattle.returned.specs.Returned.{returned, suiteOf};
+ghost use Rattle.c_writer.specs.Written.{bytesAfter};
+
+#[no_mangle]
+pub extern "C" fn sb_start(
+    cipher: u8,
+    steps: u8,
+    key: &[u8],
+    number: u64,
+    buf: &mut [u8],
+    writer: &mut [u8; 64],
+) -> u32
+    ensures { λ r. ⌜ (r ≡ returned (startOutcome (suiteOf cipher steps) (length (now (key .entry))) (length (now (buf .entry))))) × (now (buf .exit) ≡ startBuffer (suiteOf cipher steps) (now (key .entry)) number (now (buf .entry))) × (now (writer .exit) ≡ writerBytes (startWriter (suiteOf cipher steps) (now (key .entry)) number (now (buf .entry)))) ⌝ }
+{
+    let done = Writer::start(Suite { cipher, steps }, key, number, buf);
+    let w = done.writer;
+    let b = writer_bytes::to_bytes(w);
+    *writer = b;
+    let answer = done.answer;
+    code(answer)
+}
+
+#[no_mangle]
+pub extern "C" fn sb_add(
+    writer: &mut [u8; 64],
+    buf: &mut [u8],
+    from: &[u8; 2],
+    to: &[u8; 2],
+    source: &[u8],
+    target: &[u8],
+) -> u32
+    ensures { λ r. ⌜ (r ≡ returned (addOutcome writerKind (writerOf (now (writer .entry))) (unitOf (now (from .entry)) (now (to .entry)) (now (source .entry)) (now (target .entry))) (length (now (buf .entry))))) × (now (buf .exit) ≡ addBuffer writerKind (writerOf (now (writer .entry))) (unitOf (now (from .entry)) (now (to .entry)) (now (source .entry)) (now (target .entry))) (now (buf .entry))) × (now (writer .exit) ≡ bytesAfter (addOutcome writerKind (writerOf (now (writer .entry))) (unitOf (now (from .entry)) (now (to .entry)) (now (source .entry)) (now (target .entry))) (length (now (buf .entry)))) (addWriter writerKind (writerOf (now (writer .entry))) (unitOf (now (from .entry)) (now (to .entry)) (now (source .entry)) (now (target .entry))) (now (buf .entry))) (now (writer .entry))) ⌝ }
+{
+    let w = writer_bytes::from_bytes(*writer);
+    let done = w.add(*from, *to, source, target, buf);
+    let answer = done.answer;
+    let next = done.writer;
+    match answer {
+        Answer::Refused(cause) => cause.number(),
+        Answer::Done => {
+            let b = writer_bytes::to_bytes(next);
+            *writer = b;
+            0
+        }
+    }
+}
+
+#[no_mangle]
+pub extern "C" fn sb_close(writer: &mut [u8; 64], buf: &mut [u8]) -> u32
+    ensures { λ r. ⌜ (r ≡ returned (closeOutcome writerKind (writerOf (now (writer .entry))) (length (now (buf .entry))))) × (now (buf .exit) ≡ closeBuffer writerKind (writerOf (now (writer .entry))) (now (buf .entry))) × (now (writer .exit) ≡ bytesAfter (closeOutcome writerKind (writerOf (now (writer .entry))) (length (now (buf .entry)))) (closeWriter writerKind (writerOf (now (writer .entry))) (now (buf .entry))) (now (writer .entry))) ⌝ }
+{
+    let w = writer_bytes::from_bytes(*writer);
+    let done = w.close(buf);
+    let answer = done.answer;
+    let shut = done.writer;
+    match answer {
+        Answer::Refused(cause) => cause.number(),
+        Answer::Done => {
+            let b = writer_bytes::to_bytes(shut);
+            *writer = b;
+            0
+        }
+    }
+}
+
+#[no_mangle]
+pub extern "C" fn sb_place(writer: &[u8; 64]) -> u64
+    ensures { λ r. ⌜ r ≡ writerOf (now (writer .entry)) .place ⌝ }
+{
+    let w = writer_bytes::from_bytes(*writer);
+    w.place as u64
+}
+
+#[no_mangle]
+pub extern "C" fn sb_units(writer: &[u8; 64]) -> u64
+    ensures { λ r. ⌜ r ≡ writerOf (now (writer .entry)) .count ⌝ }
+{
+    let w = writer_bytes::from_bytes(*writer);
+    w.count
+}
+
+#[no_mangle]
+pub extern "C" fn sb_calls(writer: &[u8; 64]) -> u64
+    ensures { λ r. ⌜ r ≡ writerOf (now (writer .entry)) .total ⌝ }
+{
+    let w = writer_bytes::from_bytes(*writer);
+    w.total
+}

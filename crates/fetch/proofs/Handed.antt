@@ -1,0 +1,169 @@
+-- What is handed out of a unit's text, and what a call answers and leaves by its outcome.
+use mathlib.Core.Path.{_≡_, refl, sym, ap, _∙_}
+use mathlib.Core.Bool.{true, false}
+use mathlib.Core.List.{List, [], _++_}
+use Prim.Native.Nat.{ℕ, _+_, _-_, _≤_, _<_, min}
+use native.Mathlib.Omega.{arith}
+use borrow.Author.Tests.{le-leb, lt-leb}
+use lib.Dec.{eqb, leb}
+use lib.ListN.{length, drop, length-append, length-drop, take-append-drop}
+use lib.Seq.{drop-drop}
+use Rattle.suites.specs.declared.refusal.Answer.{Answer}
+use Rattle.suites.specs.declared.refusal.Answer.the-variants.{Done, Refused}
+use Rattle.suites.specs.declared.refusal.Refusal.{Refusal}
+use Rattle.suites.specs.declared.refusal.Refusal.the-variants.{KeyLength, OutputTooShort, SegmentLength, NoSuchUnit}
+use Rattle.suites.specs.declared.suite.Suite.{Suite}
+use Rattle.limits.specs.Tests.{unless}
+use Rattle.limits.proofs.Passed.{unless-passed}
+use Rattle.sealing.specs.Seal.{written}
+use Rattle.fields.specs.Kind.{Kind, kind10}
+use Rattle.fields.specs.Unit.{sourceLength, sourceOf, targetOf, textInRange}
+use Rattle.fields.proofs.Texts.{length-sourceOf, length-targetOf}
+use Rattle.parser.specs.declared.frame.Frame.{Frame}
+use Rattle.parser.specs.Frame.{frameAt}
+use Rattle.parser.specs.Opening.{openingNumber, openingSuite, openingTests, afterOpening}
+use Rattle.seals.specs.Seal.{unitOpened}
+use Rattle.reader.specs.Check.{checkTests}
+use Rattle.parser.proofs.Openings.{opening-passed}
+use Rattle.walk.specs.declared.Place.{Place}
+use Rattle.fetch.specs.declared.unit.FetchAnswer.{FetchAnswer}
+use Rattle.fetch.specs.declared.unit.FetchAnswer.the-variants.{Fetched, Refused as FetchRefused}
+use Rattle.walk.specs.Walk.{walkTo}
+use Rattle.fetch.specs.Fetch.{
+  andThen,
+  handedOut,
+  roomTest,
+  textOutcome,
+  unitOutcome,
+  closeOutcome,
+  frameOutcome,
+  frameText,
+  outcomeAt,
+  textAt,
+  outcomeFrom,
+  textFrom,
+  fetchOutcome,
+  fetchText,
+  fetchReport,
+  fetchAnswer,
+  fetchBuffer,
+  placedOutcome,
+  placedText,
+  placedAnswer,
+  placedBuffer,
+}
+
+-- an answer, and what is left of the output, as an outcome and a text give them
+abbrev pub Hands : Answer → List ℕ → List ℕ → FetchAnswer → List ℕ → Type 0
+Hands a t out r left = (r ≡ fetchReport a t) × (left ≡ written a (handedOut t) out)
+
+pub hands-same : {a b : Answer} {t u : List ℕ} (out : List ℕ) {r : FetchAnswer} {left : List ℕ} → a ≡ b → t ≡ u → Hands a t out r left → Hands b u out r left
+hands-same out p q h = (h .0 ∙ (λ i. fetchReport (p i) (q i)), h .1 ∙ (λ i. written (p i) (handedOut (q i)) out))
+
+pub hands-refused : {a : Answer} {why : Refusal} (t out : List ℕ) → a ≡ Refused why → Hands a t out (FetchRefused why) out
+hands-refused t out e = hands-same {t = t} out (sym e) refl (refl, refl)
+
+-- the source and the target of a text are what follows its first two bytes
+module _ (t : List ℕ) where
+  pub handed-out : handedOut t ≡ drop 2 t
+  unfolding sourceOf targetOf
+  handed-out = ap (λ (r : List ℕ). sourceOf t ++ r) (sym (drop-drop (sourceLength t) 2 t)) ∙ take-append-drop (sourceLength t) (drop 2 t)
+
+  pub length-handed : length (handedOut t) ≡ length t - 2
+  length-handed = ap length handed-out ∙ length-drop 2 t
+
+  pub source-within : textInRange (length t) (sourceLength t) ≡ true → sourceLength t ≤ length t - 2
+  source-within ok = omega (arith, length-handed, length-append (sourceOf t) (targetOf t), length-sourceOf t ok)
+
+  -- a text whose tag agrees: its range, then the room for it
+  module _ (out : List ℕ) where
+    pub not-text : textInRange (length t) (sourceLength t) ≡ false → textOutcome t (length out) ≡ Refused SegmentLength
+    unfolding textOutcome
+    not-text e = ap (λ b. unless b SegmentLength (roomTest t (length out))) e
+
+    module _ (ok : textInRange (length t) (sourceLength t) ≡ true) where
+      in-range : textOutcome t (length out) ≡ unless (leb (length t - 2) (length out)) OutputTooShort Done
+      unfolding textOutcome roomTest
+      in-range = λ i. unless (ok i) SegmentLength (unless (leb (length-handed i) (length out)) OutputTooShort Done)
+
+      pub no-room : length out < length t - 2 → textOutcome t (length out) ≡ Refused OutputTooShort
+      no-room h = in-range ∙ ap (λ b. unless b OutputTooShort Done) (lt-leb (length t - 2) (length out) h)
+
+      pub text-hands : length t - 2 ≤ length out
+          → Hands (textOutcome t (length out)) t out (Fetched (sourceLength t) (length t - 2 - sourceLength t)) (drop 2 t ++ drop (length (drop 2 t)) out)
+      text-hands h =
+          let done = in-range ∙ ap (λ b. unless b OutputTooShort Done) (le-leb (length t - 2) (length out) h) in
+          let target : length t - 2 - sourceLength t ≡ length (targetOf t) = omega (arith, length-targetOf t) in
+          hands-same out (sym done) refl
+          (λ i. Fetched (sym (length-sourceOf t ok) i) (target i), ap (λ r. r ++ drop (length r) out) (sym handed-out))
+
+-- where there is no unit the output stays
+pub none-left : (a : Answer) (out : List ℕ) → out ≡ written (andThen a (Refused NoSuchUnit)) (handedOut []) out
+none-left Done out = refl
+none-left (Refused why) out = refl
+
+-- by the frame where the walk ends
+module _ (suite : Suite) (key : List ℕ) (number n : ℕ) (s out : List ℕ) {r : FetchAnswer} {left : List ℕ} where
+  pub frame-hands : (f : Frame) → frameAt kind10 n s ≡ f
+      → Hands
+      (frameOutcome f (λ (m : ℕ). unitOutcome kind10 suite key number n m s (length out)) (closeOutcome kind10 suite key number n s))
+      (frameText f (λ (m : ℕ). unitOpened kind10 suite key number n m s)) out r left
+      → Hands (outcomeAt kind10 suite key number n s (length out)) (textAt kind10 suite key number n s) out r left
+  unfolding outcomeAt textAt
+  frame-hands f e h =
+      hands-same out
+      (ap (λ g. frameOutcome g (λ (m : ℕ). unitOutcome kind10 suite key number n m s (length out)) (closeOutcome kind10 suite key number n s)) (sym e))
+      (ap (λ g. frameText g (λ (m : ℕ). unitOpened kind10 suite key number n m s)) (sym e))
+      h
+
+-- by the tests before the frame
+module _ (key s : List ℕ) (n at : ℕ) (out : List ℕ) {r : FetchAnswer} {left : List ℕ} where
+  pub tests-hand : (a : Answer) → checkTests (length key) s ≡ a
+      → Hands (andThen a (outcomeAt kind10 (openingSuite s) key (openingNumber s) n (drop at s) (length out)))
+      (textAt kind10 (openingSuite s) key (openingNumber s) n (drop at s)) out r left
+      → (r ≡ placedAnswer kind10 key s n at out) × (left ≡ placedBuffer kind10 key s n at out)
+  unfolding placedAnswer placedBuffer placedOutcome placedText
+  tests-hand a e h =
+      hands-same out (ap (λ b. andThen b (outcomeAt kind10 (openingSuite s) key (openingNumber s) n (drop at s) (length out))) (sym e)) refl h
+
+-- what follows tests matters only where they are done
+report-after : (a x y : Answer) (t u : List ℕ) → (a ≡ Done → (x ≡ y) × (t ≡ u)) → fetchReport (andThen a x) t ≡ fetchReport (andThen a y) u
+report-after Done x y t u h = let e = h refl in λ i. fetchReport (e .0 i) (e .1 i)
+report-after (Refused why) x y t u h = refl
+
+left-after : (a x y : Answer) (t u out : List ℕ) → (a ≡ Done → (x ≡ y) × (t ≡ u)) → written (andThen a x) (handedOut t) out ≡ written (andThen a y) (handedOut u) out
+left-after Done x y t u out h = let e = h refl in λ i. written (e .0 i) (handedOut (e .1 i)) out
+left-after (Refused why) x y t u out h = refl
+
+-- the walk begins behind the opening fields, or at the end of a book that has none; fetch gives what stands where it ends
+module _ (kind : Kind) (key s : List ℕ) (k : ℕ) (out : List ℕ) where
+  abbrev from : ℕ
+  from = min (length s) 16
+
+  abbrev pub endsAt : Place
+  endsAt = walkTo kind k (drop from s)
+
+  -- where the tests are done, the opening fields are there
+  behind : checkTests (length key) s ≡ Done → drop from s ≡ afterOpening s
+  unfolding checkTests afterOpening
+  behind done =
+      let long = opening-passed s (unless-passed (eqb (length key) 16) KeyLength (openingTests s) done .1) .1 in
+      let whole : from ≡ 16 = omega arith in
+      ap (λ (a : ℕ). drop a s) whole
+
+  there : checkTests (length key) s ≡ Done → drop (from + endsAt .at) s ≡ drop (walkTo kind k (afterOpening s) .at) (afterOpening s)
+  there done = sym (drop-drop (endsAt .at) from s) ∙ (λ i. drop (walkTo kind k (behind done i) .at) (behind done i))
+
+  same : checkTests (length key) s ≡ Done
+      → (outcomeAt kind (openingSuite s) key (openingNumber s) (endsAt .number) (drop (from + endsAt .at) s) (length out)
+      ≡ outcomeFrom kind key (walkTo kind k (afterOpening s)) s (length out))
+      × (textAt kind (openingSuite s) key (openingNumber s) (endsAt .number) (drop (from + endsAt .at) s) ≡ textFrom kind key (walkTo kind k (afterOpening s)) s)
+  same done = (
+    λ i. outcomeAt kind (openingSuite s) key (openingNumber s) (walkTo kind k (behind done i) .number) (there done i) (length out),
+    λ i. textAt kind (openingSuite s) key (openingNumber s) (walkTo kind k (behind done i) .number) (there done i),
+  )
+
+  pub fetch-placed : (placedAnswer kind key s (endsAt .number) (from + endsAt .at) out ≡ fetchAnswer kind key s k out)
+      × (placedBuffer kind key s (endsAt .number) (from + endsAt .at) out ≡ fetchBuffer kind key s k out)
+  unfolding placedAnswer placedBuffer placedOutcome placedText fetchAnswer fetchBuffer fetchOutcome fetchText
+  fetch-placed = (report-after (checkTests (length key) s) _ _ _ _ same, left-after (checkTests (length key) s) _ _ _ _ out same)

@@ -1,0 +1,2 @@
+// Fetching one unit of a book.
+pub mod unit;

@@ -1,0 +1,117 @@
+-- The places of a walk: its turns, and that what they lead to stands within the book.
+use mathlib.Core.Path.{_≡_, refl, sym, ap, _∙_}
+use mathlib.Core.Bool.{Bool, true, false}
+use mathlib.Core.List.{List}
+use Prim.Native.Nat.{ℕ, zero, suc, _+_, _-_, _≤_, _<_, min}
+use native.Mathlib.Omega.{arith}
+use borrow.Author.Tests.{leb-true, leb-false}
+use lib.Dec.{leb}
+use lib.ListN.{length, drop, length-drop, drop-of-length-le}
+use Rattle.suites.specs.declared.refusal.Answer.{Answer}
+use Rattle.suites.specs.declared.refusal.Answer.the-variants.{Done, Refused}
+use Rattle.fields.specs.Kind.{Kind, kind10}
+use Rattle.parser.specs.declared.frame.Frame.{Frame}
+use Rattle.parser.specs.declared.frame.Frame.the-variants.{Unit, Close, Refused as FrameRefused}
+use Rattle.parser.specs.Frame.{frameAt}
+use Rattle.parser.specs.Opening.{afterOpening, openingTests}
+use Rattle.parser.proofs.Frames.{unit-told}
+use Rattle.parser.proofs.Openings.{opening-passed}
+use Rattle.walk.specs.declared.Place.{Place}
+use Rattle.walk.specs.Walk.{frameLength, nextPlace, pastUnit, walkOn, walkTo}
+use Rattle.walk.specs.Ciphertext.{partAt, partFrom, partUnless, ciphertextPlace}
+
+-- from a place past the end on, as from the end, nothing stands
+pub drop-least : (at : ℕ) (s : List ℕ) → drop (min at (length s)) s ≡ drop at s
+drop-least at s = by (leb at (length s)) refl
+  where
+    by : (b : Bool) → leb at (length s) ≡ b → drop (min at (length s)) s ≡ drop at s
+    by true e = let within : min at (length s) ≡ at = omega (arith, leb-true at (length s) e) in ap (λ (k : ℕ). drop k s) within
+    by false e =
+        let past = leb-false at (length s) e in
+        drop-of-length-le s {i = min at (length s)} (omega arith) ∙ sym (drop-of-length-le s {i = at} (omega arith))
+
+module _ (kind : Kind) (s : List ℕ) where
+  -- by the frame at the place
+  pub walk-step : (k : ℕ) (p : Place) (f : Frame) → frameAt kind (p .number) (drop (p .at) s) ≡ f
+      → walkOn kind (suc k) p s ≡ pastUnit f (λ (m : ℕ). walkOn kind k (nextPlace kind m p) s) p
+  unfolding walkOn
+  walk-step k p f e = λ i. pastUnit (e i) (λ (m : ℕ). walkOn kind k (nextPlace kind m p) s) p
+
+  -- a unit ends within the bytes that it stands in
+  pub unit-within : (n at m : ℕ) → at ≤ length s → frameAt kind n (drop at s) ≡ Unit m → at + frameLength kind m ≤ length s
+  unit-within n at m h e = omega (arith, unit-told kind n m (drop at s) e .length-is, length-drop at s)
+
+  -- the walk stays within them
+  past-within : (p : Place) (past : ℕ → Place) (f : Frame) → frameAt kind (p .number) (drop (p .at) s) ≡ f → p .at ≤ length s
+      → ((m : ℕ) → nextPlace kind m p .at ≤ length s → past m .at ≤ length s) → pastUnit f past p .at ≤ length s
+  past-within p past (Unit m) e h on = on m (unit-within (p .number) (p .at) m h e)
+  past-within p past Close e h on = h
+  past-within p past (FrameRefused why) e h on = h
+
+  walk-within : (k : ℕ) (p : Place) → p .at ≤ length s → walkOn kind k p s .at ≤ length s
+  unfolding walkOn
+  walk-within zero p h = h
+  walk-within (suc k) p h =
+      past-within p (λ (m : ℕ). walkOn kind k (nextPlace kind m p) s) (frameAt kind (p .number) (drop (p .at) s)) refl h
+      (λ m next. walk-within k (nextPlace kind m p) next)
+
+  pub walked-within : (k : ℕ) → walkTo kind k s .at ≤ length s
+  unfolding walkTo
+  walked-within k = walk-within k _ (omega arith)
+
+  -- and so does the part of the frame at a place, where a bytes stand before them
+  pub part-within : (a n at : ℕ) (f : Frame) → frameAt kind n (drop at s) ≡ f → at ≤ length s
+      → partAt kind (a + at) f .at + partAt kind (a + at) f .len ≤ a + length s
+  part-within a n at (Unit m) e h = omega (arith, unit-within n at m h e)
+  part-within a n at Close e h = omega arith
+  part-within a n at (FrameRefused why) e h = omega arith
+
+-- the ciphertext of unit k stands within the book
+pub ciphertext-within : (kind : Kind) (k : ℕ) (s : List ℕ) → ciphertextPlace kind k s .at + ciphertextPlace kind k s .len ≤ length s
+unfolding ciphertextPlace partFrom afterOpening
+ciphertext-within kind k s = by (openingTests s) refl
+  where
+    by : (a : Answer) → openingTests s ≡ a
+        → let part = partUnless a (partFrom kind (walkTo kind k (afterOpening s)) s) in part .at + part .len ≤ length s
+    by Done e =
+        let p = walkTo kind k (drop 16 s) in
+        omega (
+          arith,
+          part-within kind (drop 16 s) 16 (p .number) (p .at) (frameAt kind (p .number) (drop (p .at) (drop 16 s))) refl
+              (walked-within kind (drop 16 s) k),
+          opening-passed s e .1,
+          length-drop 16 s,
+        )
+    by (Refused why) e = omega arith
+
+-- the turns of the loop over a book of the base's kind
+
+abbrev pub placeOf : ℕ → ℕ → Place
+placeOf number at = record { number = number; at = at }
+
+-- the walk to unit k from a place of s on, where number units stand before it
+abbrev pub walkFrom : ℕ → ℕ → ℕ → List ℕ → Place
+walkFrom k number at s = walkOn kind10 (k - number) (placeOf number at) s
+
+pub turn-first : (k : ℕ) (s : List ℕ) → walkFrom k 0 0 s ≡ walkTo kind10 k s
+unfolding walkTo
+turn-first k s =
+    let all : k - 0 ≡ k = omega arith in
+    ap (λ (left : ℕ). walkOn kind10 left (placeOf 0 0) s) all
+
+module _ (k number at : ℕ) (s : List ℕ) where
+  pub turn-last : k ≤ number → walkFrom k number at s ≡ placeOf number at
+  unfolding walkOn
+  turn-last h =
+      let none : k - number ≡ 0 = omega arith in
+      ap (λ (left : ℕ). walkOn kind10 left (placeOf number at) s) none
+
+  pub turn : number < k → (f : Frame) → frameAt kind10 number (drop at s) ≡ f
+      → walkFrom k number at s ≡ pastUnit f (λ (m : ℕ). walkFrom k (number + 1) (at + (31 + m)) s) (placeOf number at)
+  turn more f e =
+      let left : k - number ≡ suc (k - (number + 1)) = omega arith in
+      let next : suc number ≡ number + 1 = omega arith in
+      let sum : (m : ℕ) → at + frameLength kind10 m ≡ at + (31 + m) = λ m. omega arith in
+      ap (λ (j : ℕ). walkOn kind10 j (placeOf number at) s) left
+      ∙ walk-step kind10 s (k - (number + 1)) (placeOf number at) f e
+      ∙ (λ i. pastUnit f (λ (m : ℕ). walkOn kind10 (k - (number + 1)) (placeOf (next i) (sum m i)) s) (placeOf number at))

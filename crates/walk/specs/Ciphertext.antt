@@ -1,0 +1,40 @@
+-- "Given k, a second call hands back unit k's ciphertext as a part of the book buffer itself, unopened, or, with no number, an empty part where
+-- the opening fields, the walk, or the framing, number or languages of k, would be refused or there is no unit k."
+use mathlib.Core.List.{List}
+use Prim.Native.Nat.{ℕ, _+_}
+use lib.ListN.{take, drop}
+use Rattle.suites.specs.declared.refusal.Answer.{Answer}
+use Rattle.suites.specs.declared.refusal.Answer.the-variants.{Done, Refused}
+use Rattle.fields.specs.Kind.{Kind}
+use Rattle.parser.specs.declared.frame.Frame.{Frame}
+use Rattle.parser.specs.declared.frame.Frame.the-variants.{Unit, Close, Refused as FrameRefused}
+use Rattle.parser.specs.Frame.{headerBytes, frameAt}
+use Rattle.parser.specs.Opening.{afterOpening, openingTests}
+use Rattle.walk.specs.declared.Place.{Place}
+use Rattle.walk.specs.declared.ciphertext.Part.{Part}
+use Rattle.walk.specs.Walk.{walkTo}
+
+abbrev pub emptyPart : Part
+emptyPart = record { at = 0; len = 0 }
+
+-- of a frame that begins at a place: the value of a unit's field 11, which 3 bytes stand before, behind its field 10
+abbrev pub partAt : Kind → ℕ → Frame → Part
+partAt kind at (Unit m) = record { at = at + (3 + headerBytes kind + 3); len = m }
+partAt kind at Close = emptyPart
+partAt kind at (FrameRefused why) = emptyPart
+
+-- of the frame at a place behind the opening fields, which are 16 bytes of the book s
+unfoldable pub partFrom : Kind → Place → List ℕ → Part
+partFrom kind p s = partAt kind (16 + p .at) (frameAt kind (p .number) (drop (p .at) (afterOpening s)))
+
+abbrev pub partUnless : Answer → Part → Part
+partUnless Done part = part
+partUnless (Refused why) part = emptyPart
+
+-- where the ciphertext of unit k stands in the book s
+unfoldable pub ciphertextPlace : Kind → ℕ → List ℕ → Part
+ciphertextPlace kind k s = partUnless (openingTests s) (partFrom kind (walkTo kind k (afterOpening s)) s)
+
+-- the part of the book that stands there
+unfoldable pub ciphertextPart : Kind → ℕ → List ℕ → List ℕ
+ciphertextPart kind k s = take (ciphertextPlace kind k s .len) (drop (ciphertextPlace kind k s .at) s)
