@@ -1,24 +1,26 @@
-//! Enciphers one block with the proved library and deciphers it again; seals a sentence, opens it
-//! again, and has it refused with one byte changed; writes a book of three sentences, checks it, and
-//! has it refused with two blocks exchanged. Prints what it did.
+//! Enciphers one block with the proved library and deciphers it again; seals a sentence, opens it again,
+//! and has it refused with one bit changed; writes a book of three units, checks it, fetches one unit,
+//! goes over all, and has the book refused with two blocks exchanged. Prints what it did.
 
-use sealed_book::{check, decipher, encipher, open, seal, Checked, Refusal, Writer};
+use std::error::Error;
 
-/// Scream with 10 steps.
-const CIPHER: u8 = 1;
-const STEPS: u8 = 10;
+use sealed_book::{open, raw, seal, Book, Refusal, Suite, Unit, Writer};
 
-fn main() -> Result<(), Refusal> {
+const SUITE: Suite = Suite::SCREAM_10;
+
+fn main() -> Result<(), Box<dyn Error>> {
     let key: [u8; 16] = std::array::from_fn(|i| i as u8);
     print("key", &key, "16 secret bytes");
     one_block(&key)?;
     println!();
     one_sentence(&key)?;
     println!();
-    one_book(&key)
+    let bytes = write_a_book(&key)?;
+    read_a_book(&key, &bytes)
 }
 
 fn one_block(key: &[u8; 16]) -> Result<(), Refusal> {
+    let [cipher, steps] = SUITE.to_bytes();
     let tweak: [u8; 16] = std::array::from_fn(|i| 0xF0 + i as u8);
     let block = *b"A block of text.";
     print(
@@ -29,13 +31,10 @@ fn one_block(key: &[u8; 16]) -> Result<(), Refusal> {
     print("block", &block, "the 16 bytes of \"A block of text.\"");
 
     let mut text = block;
-    encipher(CIPHER, STEPS, key, &tweak, &mut text)?;
-    print(
-        "enciphered",
-        &text,
-        "by Scream with 10 steps, under that key and tweak",
-    );
-    decipher(CIPHER, STEPS, key, &tweak, &mut text)?;
+    raw::encipher(cipher, steps, key, &tweak, &mut text)?;
+    let about = format!("by {SUITE}, under that key and tweak");
+    print("enciphered", &text, &about);
+    raw::decipher(cipher, steps, key, &tweak, &mut text)?;
     print(
         "deciphered",
         &text,
@@ -45,110 +44,104 @@ fn one_block(key: &[u8; 16]) -> Result<(), Refusal> {
     Ok(())
 }
 
-fn one_sentence(key: &[u8]) -> Result<(), Refusal> {
+fn one_sentence(key: &[u8; 16]) -> Result<(), Box<dyn Error>> {
     let nonce: [u8; 12] = std::array::from_fn(|i| 0xA0 + i as u8);
-    let header = b"manual 7, en to de";
-    let text = b"Hold the button down.";
+    let header = "manual 7, en to de";
+    let text = "Hold the button down.";
     print("nonce", &nonce, "1 to 15 public bytes, used once");
-    println!("header      {}  public, sealed along", show(header));
-    println!("text        {}  secret", show(text));
+    println!("header      {header:?}  public, sealed along");
+    println!("text        {text:?}  secret");
 
-    let mut sealed = [0; 37];
-    let done = seal(CIPHER, STEPS, key, &nonce, header, text, &mut sealed)?;
-    print("sealed", &sealed[..done.len - 16], "the ciphertext, and");
-    let about = format!("the tag; {} calls of the cipher", done.calls);
-    print("", &sealed[done.len - 16..], &about);
+    let mut sealed = seal(SUITE, key, &nonce, header.as_bytes(), text.as_bytes())?;
+    let (ciphertext, tag) = sealed.split_at(text.len());
+    print("sealed", ciphertext, "the ciphertext, and");
+    print("", tag, "the tag");
 
-    let mut opened = [0; 21];
-    let len = open(CIPHER, STEPS, key, &nonce, header, &sealed, &mut opened)?;
-    println!("opened      {}  the text again", show(&opened[..len]));
-    assert_eq!(opened[..len], text[..]);
+    let opened = String::from_utf8(open(SUITE, key, &nonce, header.as_bytes(), &sealed)?)?;
+    println!("opened      {opened:?}  the text again");
+    assert_eq!(opened, text);
 
     sealed[4] ^= 1;
-    match open(CIPHER, STEPS, key, &nonce, header, &sealed, &mut opened) {
-        Ok(_) => panic!("a changed byte was not seen"),
-        Err(refusal) => println!(
-            "changed     refused {}: {refusal}  after one bit of byte 4 was changed",
-            refusal.number()
-        ),
-    }
-    Ok(())
+    let answer = open(SUITE, key, &nonce, header.as_bytes(), &sealed);
+    refused("changed", answer, "one bit of byte 4")
 }
 
-fn one_book(key: &[u8]) -> Result<(), Refusal> {
-    let mut buffer = [0; 300];
-    let (mut writer, mut answer) = Writer::start(CIPHER, STEPS, key, 7, &mut buffer);
-    answer?;
-    let about = "book 7, Scream with 10 steps: public";
-    print("started", &buffer[..writer.place as usize], about);
-
-    let (en, de, fr) = (b"en", b"de", b"fr");
+fn write_a_book(key: &[u8; 16]) -> Result<Vec<u8>, Box<dyn Error>> {
+    let mut writer = Writer::start(SUITE, key, 7)?;
+    let about = format!("book 7, {SUITE}: public");
+    print("started", writer.written(), &about);
     for (to, source, target) in [
-        (de, "Hold the button down.", "Halten Sie die Taste."),
-        (fr, "Hold the button down.", "Maintenez le bouton."),
-        (de, "Close the valve.", ""),
+        ("de", "Hold the button down.", "Halten Sie die Taste."),
+        ("fr", "Hold the button down.", "Maintenez le bouton."),
+        ("de", "Close the valve.", ""),
     ] {
-        let before = writer.place as usize;
-        (writer, answer) = writer.add(&mut buffer, en, to, source.as_bytes(), target.as_bytes());
-        answer?;
-        print(
-            "added",
-            &buffer[before..before + 9],
-            "number and languages: public",
-        );
+        let before = writer.len();
+        let k = writer.add("en", to, source, target)?;
+        let about = format!("number and languages of unit {k}: public");
+        print("added", &writer.written()[before..before + 9], &about);
         println!("            {source:?} {target:?}  secret");
-        state(&writer);
     }
+    let answer = writer.add("en", "en", "Close the valve.", "");
+    refused("one more", answer, "from en to en")?;
 
-    let before = writer.place as usize;
-    (writer, answer) = writer.close(&mut buffer);
-    answer?;
-    let close = &buffer[before..writer.place as usize];
-    print("closed", close, "the number of units, and the tag");
-    state(&writer);
-
-    let (_, answer) = writer.add(&mut buffer, en, de, b"One more.", b"");
-    if let Err(refusal) = answer {
-        let number = refusal.number();
-        println!("one more    refused {number}: {refusal}");
-    }
-    assert_eq!(answer, Err(Refusal::WriterClosed));
-
-    let book = &mut buffer[..writer.place as usize];
-    let Checked { units, calls } = check(key, book)?;
-    println!("checked     units {units}, calls of the cipher {calls}  those of the writer");
-    assert_eq!((units, calls), (writer.units, writer.calls));
-
-    let (one, other) = book[28..60].split_at_mut(16);
-    one.swap_with_slice(other);
-    match check(key, book) {
-        Ok(_) => panic!("two exchanged blocks were not seen"),
-        Err(refusal) => println!(
-            "exchanged   refused {}: {refusal}  after two blocks of unit 0 changed places",
-            refusal.number()
-        ),
-    }
-    Ok(())
+    let before = writer.len();
+    let bytes = writer.close()?;
+    print(
+        "closed",
+        &bytes[before..],
+        "the number of units, and the tag",
+    );
+    Ok(bytes)
 }
 
-/// Where the writer stands.
-fn state(writer: &Writer) {
-    let Writer {
-        place,
-        units,
-        calls,
-        ..
-    } = writer;
-    println!("            place {place}, units {units}, calls of the cipher {calls}");
+fn read_a_book(key: &[u8; 16], bytes: &[u8]) -> Result<(), Box<dyn Error>> {
+    let book = Book::check(key, bytes)?;
+    println!(
+        "checked     book {}, {}: {} bytes, {} units, {} calls of the cipher",
+        book.number(),
+        book.suite(),
+        bytes.len(),
+        book.len(),
+        book.calls()
+    );
+    println!("fetched     unit 1: {}", shown(&book.fetch(1)?)?);
+    if let Some(ciphertext) = book.ciphertext(2) {
+        print("unopened", ciphertext, "unit 2 as it stands in the book");
+    }
+    refused("fetched", book.fetch(3), "unit 3")?;
+    for (k, unit) in book.iter().enumerate() {
+        let name = if k == 0 { "all" } else { "" };
+        println!("{name:<10}  unit {k}: {}", shown(&unit?)?);
+    }
+
+    let mut changed = bytes.to_vec();
+    let (one, other) = changed[28..60].split_at_mut(16);
+    one.swap_with_slice(other);
+    let answer = Book::check(key, &changed);
+    refused("exchanged", answer, "two blocks of unit 0")
+}
+
+/// A line about a call that has to be refused.
+fn refused<T>(name: &str, answer: Result<T, Refusal>, about: &str) -> Result<(), Box<dyn Error>> {
+    match answer {
+        Ok(_) => Err(format!("{name}, {about}: not refused").into()),
+        Err(refusal) => {
+            let number = refusal.number();
+            println!("{name:<10}  {about}: refused {number}, {refusal}");
+            Ok(())
+        }
+    }
+}
+
+/// The languages and texts of a unit.
+fn shown(unit: &Unit) -> Result<String, Box<dyn Error>> {
+    let (from, source) = (unit.source_language(), unit.source_text()?);
+    let (to, target) = (unit.target_language(), unit.target_text()?);
+    Ok(format!("{from} {source:?}, {to} {target:?}"))
 }
 
 /// A line: what it is, its bytes in hex, and a word about it.
 fn print(name: &str, bytes: &[u8], about: &str) {
     let hex: String = bytes.iter().map(|byte| format!("{byte:02X}")).collect();
     println!("{name:<10}  {hex}  {about}");
-}
-
-/// The text of these bytes, in quotation marks.
-fn show(bytes: &[u8]) -> String {
-    format!("{:?}", String::from_utf8_lossy(bytes))
 }

@@ -1,13 +1,20 @@
 //! The writer of a book as a value: each call takes it and hands it back as it then is.
 
+use std::fmt;
+
 use crate::{raw, Refusal};
 
-/// A writer. It holds the key. Any content may be lent to a call, and is answered; what stands before
-/// the place in the buffer must not be changed between the calls for one book.
-#[derive(Clone, Copy, Debug, PartialEq, Eq)]
+/// A writer whose fields are open to all, for tests and tools; a program wants [`Writer`](crate::Writer).
+/// It holds the key. Any content may be lent to a call, and is answered; what stands before the place in
+/// the buffer must not be changed between the calls for one book, and of a writer and its older copy only
+/// one may go on.
+#[derive(Clone, Copy, PartialEq, Eq)]
 pub struct Writer {
+    /// The suite's cipher: 1 Scream, 2 iScream.
     pub cipher: u8,
+    /// The suite's number of steps.
     pub steps: u8,
+    /// The key.
     pub key: [u8; 16],
     /// The book's number, never used twice under one key.
     pub number: u64,
@@ -85,5 +92,20 @@ impl Writer {
             bytes[at..at + 8].copy_from_slice(&number.to_be_bytes());
         }
         bytes
+    }
+}
+
+impl fmt::Debug for Writer {
+    /// All but the key.
+    fn fmt(&self, f: &mut fmt::Formatter) -> fmt::Result {
+        f.debug_struct("Writer")
+            .field("cipher", &self.cipher)
+            .field("steps", &self.steps)
+            .field("number", &self.number)
+            .field("place", &self.place)
+            .field("units", &self.units)
+            .field("calls", &self.calls)
+            .field("open", &self.open)
+            .finish_non_exhaustive()
     }
 }

@@ -1,7 +1,9 @@
-//! The functions of the static library, as C sees them. Each returns 0 or a refusal's number, but for
-//! the last three, which return a number of the writer.
+//! The functions of the static library, as C sees them; `include/sealed_book.h` says what each asks for.
+//! Each returns 0 or a refusal's number, but for [`sb_ciphertext`], which returns nothing, and the last
+//! three, which return a number of the writer.
 
 extern "C" {
+    /// Enciphers one block.
     pub fn sb_encipher(
         cipher: u8,
         steps: u8,
@@ -10,6 +12,7 @@ extern "C" {
         block: *mut u8,
     ) -> u32;
 
+    /// Deciphers one block.
     pub fn sb_decipher(
         cipher: u8,
         steps: u8,
@@ -18,6 +21,7 @@ extern "C" {
         block: *mut u8,
     ) -> u32;
 
+    /// Enciphers many blocks.
     pub fn sb_encipher_blocks(
         cipher: u8,
         steps: u8,
@@ -28,6 +32,7 @@ extern "C" {
         blocks_len: usize,
     ) -> u32;
 
+    /// Deciphers many blocks.
     pub fn sb_decipher_blocks(
         cipher: u8,
         steps: u8,
@@ -38,6 +43,7 @@ extern "C" {
         blocks_len: usize,
     ) -> u32;
 
+    /// Seals a text.
     pub fn sb_seal(
         cipher: u8,
         steps: u8,
@@ -55,6 +61,7 @@ extern "C" {
         calls: *mut u64,
     ) -> u32;
 
+    /// Opens what was sealed.
     pub fn sb_open(
         cipher: u8,
         steps: u8,
@@ -71,6 +78,7 @@ extern "C" {
         len: *mut u64,
     ) -> u32;
 
+    /// Starts a book.
     pub fn sb_start(
         cipher: u8,
         steps: u8,
@@ -82,6 +90,7 @@ extern "C" {
         writer: *mut u8,
     ) -> u32;
 
+    /// Adds a unit.
     pub fn sb_add(
         writer: *mut u8,
         buf: *mut u8,
@@ -94,8 +103,10 @@ extern "C" {
         target_len: usize,
     ) -> u32;
 
+    /// Closes the book.
     pub fn sb_close(writer: *mut u8, buf: *mut u8, buf_len: usize) -> u32;
 
+    /// Checks a whole book.
     pub fn sb_check(
         key: *const u8,
         key_len: usize,
@@ -105,9 +116,42 @@ extern "C" {
         calls: *mut u64,
     ) -> u32;
 
+    /// Fetches unit `k`, with a walk over the units before it.
+    pub fn sb_fetch(
+        key: *const u8,
+        key_len: usize,
+        book: *const u8,
+        book_len: usize,
+        k: u64,
+        out: *mut u8,
+        out_len: usize,
+        source_len: *mut u64,
+        target_len: *mut u64,
+    ) -> u32;
+
+    /// Fetches the unit of this number from this place.
+    pub fn sb_fetch_at(
+        key: *const u8,
+        key_len: usize,
+        book: *const u8,
+        book_len: usize,
+        number: u64,
+        at: usize,
+        out: *mut u8,
+        out_len: usize,
+        source_len: *mut u64,
+        target_len: *mut u64,
+    ) -> u32;
+
+    /// Where unit `k`'s ciphertext stands.
+    pub fn sb_ciphertext(book: *const u8, book_len: usize, k: u64, at: *mut u64, len: *mut u64);
+
+    /// The writer's place.
     pub fn sb_place(writer: *const u8) -> u64;
 
+    /// The writer's unit count.
     pub fn sb_units(writer: *const u8) -> u64;
 
+    /// The writer's call total.
     pub fn sb_calls(writer: *const u8) -> u64;
 }

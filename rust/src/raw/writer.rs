@@ -1,4 +1,4 @@
-//! The calls of the writer on its 64 bytes, whatever these are.
+//! The calls of the writer of a book on its 64 bytes, whatever these are.
 
 use crate::{foreign, refusal, Refusal};
 

@@ -32,20 +32,21 @@ fn given(folder: PathBuf) -> PathBuf {
 /// The folder of the archive that is made from the repository's crates once they are proved.
 fn proved() -> PathBuf {
     let manifest = env::var_os("CARGO_MANIFEST_DIR").expect("cargo sets CARGO_MANIFEST_DIR");
-    let root = Path::new(&manifest).join("../..").canonicalize();
+    let root = Path::new(&manifest).join("..").canonicalize();
     let root = root.expect("the repository's root is there");
-    for source in ["crates", "crates.txt"] {
+    for source in ["crates", "crates.txt", "library"] {
         println!("cargo:rerun-if-changed={}", root.join(source).display());
     }
-    let output = Command::new("rt")
-        .args(["staticlib", "sealed_book"])
-        .current_dir(&root)
+    let output = Command::new(root.join("library"))
         .output()
-        .expect("rt, which proves the library, cannot be started");
+        .expect("the script library, which proves and builds, cannot be started");
     if !output.status.success() {
         eprintln!("{}", String::from_utf8_lossy(&output.stdout));
         eprintln!("{}", String::from_utf8_lossy(&output.stderr));
-        panic!("rt staticlib sealed_book: {}", output.status);
+        panic!(
+            "library: {}; see SEALED_BOOK_LIB in build.rs",
+            output.status
+        );
     }
     root.join("target/staticlib")
 }

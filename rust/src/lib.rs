@@ -1,0 +1,76 @@
+//! Sealed books, for the makers of translation memory software: a manual that is not released yet goes to
+//! a translator as one sealed file, a **book**.
+//!
+//! A book is a list of **units**, each a source text and its translation, with the languages of the two.
+//! A [`Writer`] writes one; [`Book::check`] accepts the bytes under the key where a writer has left them,
+//! and refuses any other; units are then fetched one by one or in order. Texts are sealed with the
+//! tweakable block ciphers Scream and iScream (CAESAR version 1).
+//!
+//! ```
+//! use sealed_book::{Book, Refusal, Suite, Writer};
+//!
+//! # fn main() -> Result<(), Box<dyn std::error::Error>> {
+//! # let key = [7; 16];
+//! // `key` is 16 secret bytes; no other book under it has the number 7
+//! let mut writer = Writer::start(Suite::SCREAM_10, &key, 7)?;
+//! writer.add("en", "de", "Hold the button down.", "Halten Sie die Taste.")?;
+//! writer.add("en", "fr", "Hold the button down.", "Maintenez le bouton.")?;
+//! writer.add("en", "de", "Close the valve.", "")?;
+//! let bytes = writer.close()?;
+//!
+//! // all of it is checked, and refused if a single bit is another
+//! let book = Book::check(&key, &bytes)?;
+//! assert_eq!(book.len(), 3);
+//!
+//! // one unit
+//! let unit = book.fetch(1)?;
+//! assert_eq!(unit.target_language(), "fr");
+//! assert_eq!(unit.target_text()?, "Maintenez le bouton.");
+//! assert_eq!(book.fetch(3), Err(Refusal::NoSuchUnit));
+//!
+//! // all units
+//! for unit in &book {
+//!     let unit = unit?;
+//!     println!("{}: {}", unit.source_language(), unit.source_text()?);
+//! }
+//! # Ok(())
+//! # }
+//! ```
+//!
+//! What is not checked as a whole can be fetched from, too: [`fetch`] and [`ciphertext`] say what is tested
+//! then. [`seal`] and [`open`] do a single text. What a call turns down it refuses with a [`Refusal`], and
+//! leaves everything as it was.
+//!
+//! # What stands below
+//!
+//! All of this calls a static library, which is proved to do what the ciphers' definition and the book's
+//! say, for all inputs; [`raw`] has its functions one to one. This crate adds memory and types, and is
+//! tested, not proved. The repository's README says what is proved, and docs/SECURITY.md what is promised
+//! and what a user has to see to.
+//!
+//! # Building
+//!
+//! The build script proves the library and has it built, which needs the Rattle kit (`rt`). Where the
+//! variable `SEALED_BOOK_LIB` names a folder, the archive `libsealed_book.a` there is linked instead. It is
+//! for x86-64 Linux.
+
+#![deny(missing_docs)]
+
+mod book;
+mod fetching;
+pub mod foreign;
+pub mod raw;
+mod refusal;
+mod sealing;
+mod secret;
+mod suite;
+mod unit;
+mod writer;
+
+pub use book::{Book, Units};
+pub use fetching::{ciphertext, fetch};
+pub use refusal::Refusal;
+pub use sealing::{open, seal};
+pub use suite::{Cipher, Suite};
+pub use unit::Unit;
+pub use writer::Writer;

@@ -1,0 +1,65 @@
+//! Sealing and opening a single text.
+
+use crate::{raw, Refusal, Suite};
+
+/// How many bytes a tag has.
+const TAG: usize = 16;
+
+/// Seals a text under a suite, a key and a nonce, and a header along with it, which is not hidden. Returns
+/// the ciphertext, which is as long as the text, and behind it the tag of 16 bytes.
+///
+/// A nonce has n = 1 to 15 bytes. It must never be used twice under one key, and all nonces under one key
+/// must have the same length. The units of a book are sealed with nonces of 12 bytes, its number first: a
+/// key that is used for books is best used for nothing else. The header may have min(2^(130 − 8n), 2^24)
+/// bytes, the text min(2^(131 − 8n), 2^24).
+///
+/// # Errors
+///
+/// The first of these that applies: [`Refusal::NonceLength`], [`Refusal::HeaderTooLong`],
+/// [`Refusal::TextTooLong`].
+///
+/// ```
+/// use sealed_book::{open, seal, Refusal, Suite};
+///
+/// # fn main() -> Result<(), Refusal> {
+/// # let (key, nonce) = ([7; 16], [1; 12]);
+/// let suite = Suite::ISCREAM_12;
+/// let mut sealed = seal(suite, &key, &nonce, b"manual 7", b"Hold the button down.")?;
+/// assert_eq!(open(suite, &key, &nonce, b"manual 7", &sealed)?, b"Hold the button down.");
+/// sealed[4] ^= 1;
+/// assert_eq!(open(suite, &key, &nonce, b"manual 7", &sealed), Err(Refusal::TagDiffers));
+/// # Ok(())
+/// # }
+/// ```
+pub fn seal(
+    suite: Suite,
+    key: &[u8; 16],
+    nonce: &[u8],
+    header: &[u8],
+    text: &[u8],
+) -> Result<Vec<u8>, Refusal> {
+    let [cipher, steps] = suite.to_bytes();
+    let mut out = vec![0; text.len() + TAG];
+    raw::seal(cipher, steps, key, nonce, header, text, &mut out)?;
+    Ok(out)
+}
+
+/// Opens what [`seal`] has sealed under the same suite, key, nonce and header, and returns the text.
+/// Nothing of it is handed out before the tag was compared in full.
+///
+/// # Errors
+///
+/// The first of these that applies: [`Refusal::NonceLength`], [`Refusal::HeaderTooLong`],
+/// [`Refusal::SealedTooShort`], [`Refusal::TextTooLong`], [`Refusal::TagDiffers`].
+pub fn open(
+    suite: Suite,
+    key: &[u8; 16],
+    nonce: &[u8],
+    header: &[u8],
+    sealed: &[u8],
+) -> Result<Vec<u8>, Refusal> {
+    let [cipher, steps] = suite.to_bytes();
+    let mut out = vec![0; sealed.len().saturating_sub(TAG)];
+    raw::open(cipher, steps, key, nonce, header, sealed, &mut out)?;
+    Ok(out)
+}

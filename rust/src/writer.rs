@@ -1,0 +1,175 @@
+//! The writer of a book.
+
+use std::fmt;
+use std::mem;
+
+use crate::secret::Secret;
+use crate::{raw, Refusal, Suite};
+
+/// How many bytes the opening fields take.
+const OPENING: usize = 16;
+
+/// How many bytes of memory a writer starts with.
+const FIRST: usize = 1_024;
+
+/// Writes a book: starts it, adds units, and closes it. The bytes are kept in memory, in a buffer that
+/// doubles when it is full.
+///
+/// A refused call leaves the writer as it was, and it can go on.
+///
+/// # One book number, one book
+///
+/// Under one key a book number must never be used twice, not for two books and not for two versions of
+/// one: units of the same place would be sealed under the same tweaks, and show where they agree. For the
+/// same reason a writer cannot be cloned.
+///
+/// # The key
+///
+/// A writer holds the key until it is closed or dropped, and then clears it. Copies that a move of the
+/// writer or a call of the library has left on the stack are not cleared.
+///
+/// ```
+/// use sealed_book::{Refusal, Suite, Writer};
+///
+/// # fn main() -> Result<(), Refusal> {
+/// # let key = [7; 16];
+/// let mut writer = Writer::start(Suite::SCREAM_10, &key, 7)?;
+/// assert_eq!(writer.add("en", "de", "valve", "Ventil"), Ok(0));
+/// assert_eq!(writer.add("en", "en", "valve", "valve"), Err(Refusal::LanguagesNotAllowed));
+/// assert_eq!(writer.add("en", "fr", "valve", "vanne"), Ok(1));
+/// let book = writer.close()?;
+/// assert_eq!(book.len(), 16 + (33 + 5 + 6) + (33 + 5 + 5) + 24);
+/// # Ok(())
+/// # }
+/// ```
+pub struct Writer {
+    /// The 64 bytes that the library has for a writer. It is open, and of the buffer.
+    bytes: Secret<{ raw::LEN }>,
+    /// The book up to the writer's place, and zeros.
+    buffer: Vec<u8>,
+}
+
+impl Writer {
+    /// Starts a book with this number, which is new under this key.
+    ///
+    /// # Errors
+    ///
+    /// No refusal can occur: the suite is listed, and the key has its length.
+    pub fn start(suite: Suite, key: &[u8; 16], number: u64) -> Result<Writer, Refusal> {
+        Writer::with_capacity(suite, key, number, FIRST)
+    }
+
+    /// The same, with memory for a book of so many bytes: 16, for each unit 33 and those of source and
+    /// target, and 24 for the close. A longer book can still be written.
+    ///
+    /// # Errors
+    ///
+    /// As [`start`](Writer::start).
+    pub fn with_capacity(
+        suite: Suite,
+        key: &[u8; 16],
+        number: u64,
+        capacity: usize,
+    ) -> Result<Writer, Refusal> {
+        let mut writer = Writer {
+            bytes: Secret([0; raw::LEN]),
+            buffer: vec![0; capacity.max(OPENING)],
+        };
+        let [cipher, steps] = suite.to_bytes();
+        let Writer { bytes, buffer } = &mut writer;
+        raw::start(cipher, steps, key, number, buffer, &mut bytes.0)?;
+        Ok(writer)
+    }
+
+    /// Adds a unit: a source in the language `from` and its target in the language `to`. Returns its
+    /// number; the first one is unit 0.
+    ///
+    /// A code is two letters a to z, and the two differ. They stand in the book in clear; source and
+    /// target are sealed, and only their length in bytes together is seen. Both may be any bytes; a target
+    /// may be empty.
+    ///
+    /// # Errors
+    ///
+    /// The first of these that applies:
+    /// - [`Refusal::LanguagesNotAllowed`], also for a code that has not two bytes;
+    /// - [`Refusal::SegmentLength`] where the source has not 1 to 4,096 bytes or the target more than 4,096;
+    /// - [`Refusal::TooManyUnits`] where there are 65,535 already.
+    pub fn add(
+        &mut self,
+        from: &str,
+        to: &str,
+        source: impl AsRef<[u8]>,
+        target: impl AsRef<[u8]>,
+    ) -> Result<u64, Refusal> {
+        let number = self.units();
+        let (from, to) = (code(from), code(to));
+        let (source, target) = (source.as_ref(), target.as_ref());
+        self.with_room(|writer, buffer| raw::add(writer, buffer, &from, &to, source, target))?;
+        Ok(number)
+    }
+
+    /// Closes the book and returns its bytes.
+    ///
+    /// # Errors
+    ///
+    /// No refusal can occur: the writer is open, and its buffer grows.
+    pub fn close(mut self) -> Result<Vec<u8>, Refusal> {
+        self.with_room(raw::close)?;
+        let len = self.len();
+        let mut book = mem::take(&mut self.buffer);
+        book.truncate(len);
+        Ok(book)
+    }
+
+    /// How many units are added.
+    pub fn units(&self) -> u64 {
+        raw::units(&self.bytes.0)
+    }
+
+    /// How many calls of the cipher they have taken. The close will take three more.
+    pub fn calls(&self) -> u64 {
+        raw::calls(&self.bytes.0)
+    }
+
+    /// How many bytes are written, 16 at least.
+    #[allow(clippy::len_without_is_empty)]
+    pub fn len(&self) -> usize {
+        usize::try_from(raw::place(&self.bytes.0)).expect("within the buffer")
+    }
+
+    /// The bytes that are written: the book without its close, and without the units still to come.
+    pub fn written(&self) -> &[u8] {
+        &self.buffer[..self.len()]
+    }
+
+    /// Makes the call, and again with twice the buffer as long as it is refused for want of room. That
+    /// cause is tested last: the buffer only grows for a call that will be accepted.
+    fn with_room(
+        &mut self,
+        call: impl Fn(&mut raw::Bytes, &mut [u8]) -> Result<(), Refusal>,
+    ) -> Result<(), Refusal> {
+        loop {
+            match call(&mut self.bytes.0, &mut self.buffer) {
+                Err(Refusal::OutputTooShort) => self.buffer.resize(2 * self.buffer.len(), 0),
+                answer => return answer,
+            }
+        }
+    }
+}
+
+/// Does not show the key.
+impl fmt::Debug for Writer {
+    fn fmt(&self, f: &mut fmt::Formatter) -> fmt::Result {
+        f.debug_struct("Writer")
+            .field("units", &self.units())
+            .field("calls", &self.calls())
+            .field("len", &self.len())
+            .finish_non_exhaustive()
+    }
+}
+
+/// The two bytes of a language code; for one of another length two zeros, which are no letters, so that
+/// the library refuses it where it refuses a code.
+fn code(code: &str) -> [u8; 2] {
+    code.as_bytes().try_into().unwrap_or([0; 2])
+}

@@ -1,0 +1,89 @@
+//! Books for the tests. What they hold is kept in the types of the second implementation, which lays
+//! nothing out here.
+
+// Each test file uses a part of this.
+#![allow(dead_code)]
+
+use reference::book as second;
+use reference::random::Random;
+use sealed_book::{Refusal, Suite, Unit, Writer};
+
+/// A unit with random segments of these lengths, and two languages.
+pub fn unit(random: &mut Random, s: usize, t: usize) -> second::Unit {
+    let codes = [*b"en", *b"de", *b"fr", *b"ja", *b"zz", *b"aa"];
+    let from = random.below(6);
+    let to = (from + 1 + random.below(5)) % 6;
+    second::Unit {
+        from: codes[from],
+        to: codes[to],
+        source: random.some_bytes(s),
+        target: random.some_bytes(t),
+    }
+}
+
+/// A book with a random key and number, and units of these lengths.
+pub fn book(random: &mut Random, suite: Suite, lengths: &[(usize, usize)]) -> second::Book {
+    let [cipher, steps] = suite.to_bytes();
+    let mut book = second::Book::random(random, (cipher, steps));
+    book.units = lengths.iter().map(|&(s, t)| unit(random, s, t)).collect();
+    book
+}
+
+/// So many lengths of source and target, the source shorter than `end` and the target too.
+pub fn lengths(random: &mut Random, count: usize, end: usize) -> Vec<(usize, usize)> {
+    let mut pair = || (1 + random.below(end - 1), random.below(end));
+    (0..count).map(|_| pair()).collect()
+}
+
+/// The book's suite.
+pub fn suite(book: &second::Book) -> Suite {
+    Suite::from_bytes([book.cipher, book.steps]).expect("a listed suite")
+}
+
+/// A writer that has started this book.
+pub fn started(book: &second::Book) -> Writer {
+    Writer::start(suite(book), &book.key, book.number).expect("a listed suite")
+}
+
+/// Adds the unit.
+pub fn add(writer: &mut Writer, unit: &second::Unit) -> Result<u64, Refusal> {
+    let [from, to] = [unit.from, unit.to].map(|code| String::from_utf8(code.to_vec()).unwrap());
+    writer.add(&from, &to, &unit.source, &unit.target)
+}
+
+/// The book as the writer leaves it.
+pub fn written(book: &second::Book) -> Vec<u8> {
+    let mut writer = started(book);
+    for (k, unit) in book.units.iter().enumerate() {
+        assert_eq!(add(&mut writer, unit), Ok(k as u64));
+    }
+    writer.close().expect("an open writer")
+}
+
+/// How many bytes the unit takes.
+pub fn unit_len(unit: &second::Unit) -> usize {
+    33 + unit.source.len() + unit.target.len()
+}
+
+/// Where each unit begins, and where the close does.
+pub fn places(book: &second::Book) -> Vec<usize> {
+    let mut places = vec![16];
+    for unit in &book.units {
+        places.push(places[places.len() - 1] + unit_len(unit));
+    }
+    places
+}
+
+/// A fetched unit is the one that was added.
+pub fn assert_unit(fetched: &Unit, added: &second::Unit, name: &str) {
+    assert_eq!(
+        (
+            fetched.source_language().as_bytes(),
+            fetched.target_language().as_bytes()
+        ),
+        (&added.from[..], &added.to[..]),
+        "{name}"
+    );
+    assert!(fetched.source == added.source, "source, {name}");
+    assert!(fetched.target == added.target, "target, {name}");
+}
