@@ -1,6 +1,6 @@
 /*
- * Scream and iScream (CAESAR version 1) in C, one block at a time, sealing over them, and the writer
- * and the checker of sealed books: the yardstick of the benchmark.
+ * Scream and iScream (CAESAR version 1) in C, one block at a time, sealing over them, and the writer,
+ * the checker and the fetcher of sealed books: the yardstick of the benchmark.
  *
  * The S-boxes are bitsliced on the eight rows (Algorithms 3 and 4, and 5 with its round corrected).
  * The L-boxes go by two tables of 256 words each, one for each byte of a row. Four byte tables, as
@@ -539,7 +539,7 @@ uint32_t baseline_open(uint8_t cipher, uint8_t steps, const uint8_t *key, size_t
 
 /* ---- Books ---- */
 
-enum { MOST_UNITS = 65535, LONGEST_SEGMENT = 4096 };
+enum { MOST_UNITS = 65535, LONGEST_SEGMENT = 4096, LONGEST_TEXT = 2 + 2 * LONGEST_SEGMENT };
 
 /* `open` is 0 for a closed writer. */
 typedef struct {
@@ -649,7 +649,7 @@ uint32_t baseline_add(baseline_writer *w, uint8_t *buffer, size_t len, const uin
     if (len - w->place < 33 + s + t)
         return 7;
 
-    uint8_t text[2 + 2 * LONGEST_SEGMENT];
+    uint8_t text[LONGEST_TEXT];
     size_t m = 2 + s + t;
     put(put(put_number(text, s, 2), source, s), target, t);
 
@@ -681,7 +681,7 @@ uint32_t baseline_close(baseline_writer *w, uint8_t *buffer, size_t len)
     return 0;
 }
 
-/* What is left of a book that is checked. */
+/* What is left of a book that is read. */
 typedef struct {
     const uint8_t *at;
     size_t len;
@@ -694,7 +694,7 @@ INLINE size_t number_at(const uint8_t *at)
 
 /* The value of the field that comes next, and its length, where it has this tag and a length in this
  * range; else NULL. */
-static const uint8_t *next_field(rest *r, uint8_t tag, size_t least, size_t most, size_t *len)
+INLINE const uint8_t *next_field(rest *r, uint8_t tag, size_t least, size_t most, size_t *len)
 {
     if (r->len < 3 || r->at[0] != tag)
         return NULL;
@@ -723,12 +723,16 @@ static int open_part(const uint8_t *key, const uint8_t *book, uint64_t units, co
         : unseal(ISCREAM, steps, key, nonce, 12, header, header_len, ciphertext, len, tag, text);
 }
 
-/* The unit that comes next. Returns 0, or the refusal's number. */
-static uint32_t check_unit(const uint8_t *key, const uint8_t *book, rest *r, uint64_t units,
-                           uint64_t *calls)
+/* The fields of a unit: its header whole, the ciphertext of `m` bytes, the tag. */
+typedef struct {
+    const uint8_t *head, *ciphertext, *tag;
+    size_t m;
+} unit;
+
+/* Reads the unit that comes next, and opens nothing. Returns 0, or the refusal's number. */
+INLINE uint32_t next_unit(rest *r, uint64_t units, unit *u)
 {
-    uint8_t text[2 + 2 * LONGEST_SEGMENT];
-    size_t len, m;
+    size_t len;
     const uint8_t *head = next_field(r, 0x10, 6, 6, &len);
     if (head == NULL)
         return 14;
@@ -738,15 +742,23 @@ static uint32_t check_unit(const uint8_t *key, const uint8_t *book, rest *r, uin
         return 15;
     if (!letters(head + 2) || !letters(head + 4) || memcmp(head + 2, head + 4, 2) == 0)
         return 11;
-    const uint8_t *ciphertext = next_field(r, 0x11, 3, sizeof text, &m);
-    const uint8_t *tag = ciphertext == NULL ? NULL : next_field(r, 0x12, 16, 16, &len);
-    if (tag == NULL)
-        return 14;
-    if (!open_part(key, book, units, head - 3, 9, ciphertext, m, tag, text, calls))
+    u->head = head - 3;
+    u->ciphertext = next_field(r, 0x11, 3, LONGEST_TEXT, &u->m);
+    u->tag = u->ciphertext == NULL ? NULL : next_field(r, 0x12, 16, 16, &len);
+    return u->tag == NULL ? 14 : 0;
+}
+
+/* Writes a unit's text of at most LONGEST_TEXT bytes, and its source's length. Returns 0, or the
+ * refusal's number. */
+static uint32_t open_unit(const uint8_t *key, const uint8_t *book, uint64_t units, const unit *u,
+                          uint8_t *text, size_t *source_len, uint64_t *calls)
+{
+    if (!open_part(key, book, units, u->head, 9, u->ciphertext, u->m, u->tag, text, calls))
         return 8;
-    size_t s = number_at(text), segments = m - 2;
+    size_t s = number_at(text), segments = u->m - 2;
     if (s == 0 || s > LONGEST_SEGMENT || s > segments || segments - s > LONGEST_SEGMENT)
         return 12;
+    *source_len = s;
     return 0;
 }
 
@@ -766,30 +778,85 @@ static uint32_t check_close(const uint8_t *key, const uint8_t *book, rest *r, ui
     return r->len == 0 ? 0 : 14;
 }
 
+/* Reads fields 01 and 02. Returns 0, or the refusal's number, that of the key's length too. */
+static uint32_t read_opening(size_t key_len, rest *r)
+{
+    const uint8_t *book = r->at;
+    size_t len;
+    if (key_len != 16)
+        return 2;
+    if (next_field(r, 0x01, 8, 8, &len) == NULL || next_field(r, 0x02, 2, 2, &len) == NULL)
+        return 14;
+    return listed(book[14], book[15]) ? 0 : 1;
+}
+
+/* Whether a close comes next. */
+INLINE int at_close(const rest *r)
+{
+    return r->len > 0 && r->at[0] == 0x20;
+}
+
 /* Checks a book of `len` bytes. Returns 0, with unit count and call total written, or the refusal's
  * number. */
 uint32_t baseline_check(const uint8_t *key, size_t key_len, const uint8_t *book, size_t len,
                         uint64_t *unit_count, uint64_t *call_total)
 {
     rest r = {book, len};
-    size_t value_len;
-    if (key_len != 16)
-        return 2;
-    if (next_field(&r, 0x01, 8, 8, &value_len) == NULL ||
-        next_field(&r, 0x02, 2, 2, &value_len) == NULL)
-        return 14;
-    if (!listed(book[14], book[15]))
-        return 1;
+    uint32_t number = read_opening(key_len, &r);
+    if (number != 0)
+        return number;
     uint64_t units = 0, calls = 0;
-    for (; r.len == 0 || r.at[0] != 0x20; units++) {
-        uint32_t number = check_unit(key, book, &r, units, &calls);
+    for (; !at_close(&r); units++) {
+        uint8_t text[LONGEST_TEXT];
+        size_t s;
+        unit u;
+        number = next_unit(&r, units, &u);
+        if (number == 0)
+            number = open_unit(key, book, units, &u, text, &s, &calls);
         if (number != 0)
             return number;
     }
-    uint32_t number = check_close(key, book, &r, units, &calls);
+    number = check_close(key, book, &r, units, &calls);
     if (number != 0)
         return number;
     *unit_count = units;
     *call_total = calls;
+    return 0;
+}
+
+/* Fetches unit `k` of a book of `len` bytes: walks over the units before it, opens it where it stands,
+ * by way of a buffer, and copies source and target to the start of the output. Returns 0, with the two
+ * lengths written, or the refusal's number. */
+uint32_t baseline_fetch(const uint8_t *key, size_t key_len, const uint8_t *book, size_t len,
+                        uint64_t k, uint8_t *out, size_t out_len, uint64_t *source_len,
+                        uint64_t *target_len)
+{
+    rest r = {book, len};
+    uint32_t number = read_opening(key_len, &r);
+    if (number != 0)
+        return number;
+    uint64_t units = 0, calls = 0;
+    unit u;
+    for (;; units++) {
+        if (at_close(&r)) {
+            number = check_close(key, book, &r, units, &calls);
+            return number != 0 ? number : 16;
+        }
+        number = next_unit(&r, units, &u);
+        if (number != 0)
+            return number;
+        if (units == k)
+            break;
+    }
+    uint8_t text[LONGEST_TEXT];
+    size_t s, segments = u.m - 2;
+    number = open_unit(key, book, k, &u, text, &s, &calls);
+    if (number != 0)
+        return number;
+    if (out_len < segments)
+        return 7;
+    memcpy(out, text + 2, segments);
+    *source_len = s;
+    *target_len = segments - s;
     return 0;
 }

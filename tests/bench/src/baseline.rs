@@ -1,5 +1,5 @@
 //! A safe wrapper over bench/baseline.c. The functions on blocks say whether the suite is listed;
-//! sealing, opening, the writer and the checker return a refusal's number.
+//! sealing, opening, the writer, the checker and the fetcher return a refusal's number.
 
 extern "C" {
     fn baseline_encipher(
@@ -98,6 +98,18 @@ extern "C" {
         len: usize,
         units: *mut u64,
         calls: *mut u64,
+    ) -> u32;
+
+    fn baseline_fetch(
+        key: *const u8,
+        key_len: usize,
+        book: *const u8,
+        len: usize,
+        k: u64,
+        out: *mut u8,
+        out_len: usize,
+        source_len: *mut u64,
+        target_len: *mut u64,
     ) -> u32;
 }
 
@@ -358,6 +370,27 @@ pub fn check(key: &[u8], book: &[u8]) -> Result<(u64, u64), u32> {
         )
     };
     answer(number).map(|()| (units, calls))
+}
+
+/// Writes source and target of unit `k` at the start of `out`, and returns their lengths.
+#[inline]
+pub fn fetch(key: &[u8], book: &[u8], k: u64, out: &mut [u8]) -> Result<(usize, usize), u32> {
+    let (mut source, mut target) = (0, 0);
+    // SAFETY: each slice is given with its length, and only `out` and the two numbers are written.
+    let number = unsafe {
+        baseline_fetch(
+            key.as_ptr(),
+            key.len(),
+            book.as_ptr(),
+            book.len(),
+            k,
+            out.as_mut_ptr(),
+            out.len(),
+            &mut source,
+            &mut target,
+        )
+    };
+    answer(number).map(|()| (source as usize, target as usize))
 }
 
 /// 0, or a refusal's number.

@@ -1,7 +1,8 @@
-//! The calls of the cipher that a sealing, or checking a book, takes, for making them alone.
+//! The calls of the cipher that a sealing, or opening parts of a book, takes, for making them alone.
 
 use reference::random::Random;
 use reference::sealing::calls;
+use sealed_book::raw;
 
 /// The tweaks and blocks of a call list, with what they are enciphered under.
 #[derive(Clone)]
@@ -38,15 +39,15 @@ impl CallList {
     /// As many blocks enciphered as the call list has, by one call of the library.
     pub fn encipher(&mut self) {
         let ((cipher, steps), tweaks, blocks) = (self.suite, &self.tweaks, &mut self.blocks);
-        sealed_book::encipher_blocks(cipher, steps, &self.key, tweaks, blocks)
+        raw::encipher_blocks(cipher, steps, &self.key, tweaks, blocks)
             .expect("the suite is listed");
     }
 }
 
-/// As many tweaks and blocks as the longest unit of a book takes, with what they are enciphered and
-/// deciphered under, and how many each unit and the close take.
+/// As many tweaks and blocks as the longest part that is opened takes, with what they are enciphered and
+/// deciphered under, and how many each part takes: a unit, or the close.
 #[derive(Clone)]
-pub struct CheckCalls {
+pub struct OpenCalls {
     suite: (u8, u8),
     key: [u8; 16],
     tweaks: Vec<u8>,
@@ -63,22 +64,42 @@ struct Counts {
     deciphered: usize,
 }
 
-impl CheckCalls {
-    /// For a book whose units have texts of these lengths.
-    pub fn new(suite: (u8, u8), key: [u8; 16], texts: impl Iterator<Item = usize>) -> CheckCalls {
-        let unit = |len: usize| Counts {
+impl Counts {
+    /// Of a unit with a text of so many bytes; each of its blocks is enciphered or deciphered once.
+    fn of_unit(len: usize) -> Counts {
+        Counts {
             enciphered: 16 * 4,
             deciphered: 16 * (len.div_ceil(16) - 1),
-        };
-        let close = Counts {
-            enciphered: 16 * 3,
-            deciphered: 0,
-        };
-        let counts: Vec<Counts> = texts.map(unit).chain([close]).collect();
+        }
+    }
+
+    const CLOSE: Counts = Counts {
+        enciphered: 16 * 3,
+        deciphered: 0,
+    };
+}
+
+impl OpenCalls {
+    /// For checking a book whose units have texts of these lengths.
+    pub fn of_book(
+        suite: (u8, u8),
+        key: [u8; 16],
+        texts: impl Iterator<Item = usize>,
+    ) -> OpenCalls {
+        let counts = texts.map(Counts::of_unit).chain([Counts::CLOSE]);
+        OpenCalls::new(suite, key, counts.collect())
+    }
+
+    /// For opening a unit that has a text of this length.
+    pub fn of_unit(suite: (u8, u8), key: [u8; 16], text: usize) -> OpenCalls {
+        OpenCalls::new(suite, key, vec![Counts::of_unit(text)])
+    }
+
+    fn new(suite: (u8, u8), key: [u8; 16], counts: Vec<Counts>) -> OpenCalls {
         let lengths = counts.iter().map(|one| one.enciphered.max(one.deciphered));
         let longest = lengths.max().unwrap_or(0);
         let mut random = Random::new(2014);
-        CheckCalls {
+        OpenCalls {
             suite,
             key,
             tweaks: random.some_bytes(longest),
@@ -96,17 +117,14 @@ impl CheckCalls {
         bytes.sum::<usize>() / 16
     }
 
-    /// For each unit and the close as many blocks enciphered and deciphered as it takes, by a call of
-    /// the library each.
+    /// For each part as many blocks deciphered and enciphered as it takes, by a call of the library each.
     pub fn run(&mut self) {
         let ((cipher, steps), key) = (self.suite, &self.key);
         for one in &self.counts {
             let (tweaks, blocks) = (&self.tweaks, &mut self.blocks[..one.deciphered]);
-            sealed_book::decipher_blocks(cipher, steps, key, tweaks, blocks)
-                .expect("the suite is listed");
+            raw::decipher_blocks(cipher, steps, key, tweaks, blocks).expect("the suite is listed");
             let blocks = &mut self.blocks[..one.enciphered];
-            sealed_book::encipher_blocks(cipher, steps, key, tweaks, blocks)
-                .expect("the suite is listed");
+            raw::encipher_blocks(cipher, steps, key, tweaks, blocks).expect("the suite is listed");
         }
     }
 }

@@ -1,13 +1,13 @@
 //! Checking a book, beside the calls of the cipher that it takes.
 
 use bench::baseline;
-use bench::calls::CheckCalls;
-use bench::cost::Per;
+use bench::calls::OpenCalls;
+use bench::cost::{Per, Rounds};
 use bench::counter::Cycles;
 use bench::table::{Contestant, Line, Table, SUITES};
 use reference::check::check;
 use reference::random::Random;
-use sealed_book::{Checked, Writer};
+use sealed_book::raw::{self, Checked, Writer};
 
 /// Units of the books.
 const UNITS: [usize; 3] = [600, 6_000, 60_000];
@@ -18,7 +18,7 @@ const UNITS: [usize; 3] = [600, 6_000, 60_000];
 struct Data {
     key: [u8; 16],
     book: Vec<u8>,
-    calls: CheckCalls,
+    calls: OpenCalls,
     counts: [u8; 16],
 }
 
@@ -44,7 +44,7 @@ impl Data {
         (writer, answer) = writer.close(&mut book);
         assert_eq!(answer, Ok(()));
         book.truncate(writer.place as usize);
-        let calls = CheckCalls::new(suite, key, texts.into_iter());
+        let calls = OpenCalls::of_book(suite, key, texts.into_iter());
         assert_eq!(calls.count() as u64, writer.calls);
         Data {
             key,
@@ -62,7 +62,7 @@ impl Data {
 }
 
 fn library(data: &mut Data) {
-    let Checked { units, calls } = sealed_book::check(&data.key, &data.book).expect("accepted");
+    let Checked { units, calls } = raw::check(&data.key, &data.book).expect("accepted");
     data.keep(units, calls);
 }
 
@@ -86,6 +86,8 @@ fn lines() -> Vec<Line<Data>> {
                 size: units,
                 later: units > UNITS[0],
                 data: Data::new(suite, units),
+                less: None,
+                turns: 1,
             });
         }
     }
@@ -112,6 +114,7 @@ pub fn table(counter: &mut Option<Cycles>) {
             "Ratios are of ns; to first is the library's check of a longer book to that of 600 units.",
         ],
         per: Per::Unit,
+        rounds: Rounds::USUAL,
         head: format!("{:<11}{:>7}", "suite", "units"),
         later: Some(["to", "first"]),
         lines: lines(),

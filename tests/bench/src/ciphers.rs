@@ -1,10 +1,11 @@
 //! The block ciphers: one block and many, in the library, the reference and the baseline in C.
 
 use bench::baseline;
-use bench::cost::Per;
+use bench::cost::{Per, Rounds};
 use bench::counter::Cycles;
 use bench::table::{Contestant, Line, Table, SUITES};
 use reference::random::Random;
+use sealed_book::raw;
 
 type Block = [u8; 16];
 
@@ -48,14 +49,14 @@ fn library(data: &mut Data) {
     let (tweaks, blocks) = (&data.tweaks[..], &mut data.blocks[..]);
     let answer = if let ([tweak], [block]) = (tweaks, &mut *blocks) {
         match data.direction {
-            Direction::Encipher => sealed_book::encipher(c, s, key, tweak, block),
-            Direction::Decipher => sealed_book::decipher(c, s, key, tweak, block),
+            Direction::Encipher => raw::encipher(c, s, key, tweak, block),
+            Direction::Decipher => raw::decipher(c, s, key, tweak, block),
         }
     } else {
         let (tweaks, blocks) = (tweaks.as_flattened(), blocks.as_flattened_mut());
         match data.direction {
-            Direction::Encipher => sealed_book::encipher_blocks(c, s, key, tweaks, blocks),
-            Direction::Decipher => sealed_book::decipher_blocks(c, s, key, tweaks, blocks),
+            Direction::Encipher => raw::encipher_blocks(c, s, key, tweaks, blocks),
+            Direction::Decipher => raw::decipher_blocks(c, s, key, tweaks, blocks),
         }
     };
     answer.expect("the suite is listed");
@@ -104,6 +105,8 @@ fn lines() -> Vec<Line<Data>> {
                     size: 16 * blocks,
                     later: false,
                     data: Data::new(suite, direction, blocks),
+                    less: None,
+                    turns: 1,
                 });
             }
         }
@@ -133,6 +136,7 @@ pub fn table(counter: &mut Option<Cycles>) {
             "Ratios are of ns/B: under 1 the library is the faster one.",
         ],
         per: Per::Byte,
+        rounds: Rounds::USUAL,
         head: format!("{:<21}{:>6}", "suite", "blocks"),
         later: None,
         lines: lines(),

@@ -2,12 +2,8 @@
 
 use std::time::{Duration, Instant};
 
+use crate::clock;
 use crate::counter::Cycles;
-
-/// Rounds over all lines of a table and all contestants, fewer where the time is up.
-const ROUNDS: usize = 200;
-const FEWEST_ROUNDS: usize = 5;
-const TIME: Duration = Duration::from_secs(10);
 
 /// What the costs of a table are of.
 #[derive(Clone, Copy)]
@@ -60,9 +56,9 @@ impl Cost {
     /// Runs what works on so many bytes or units, or makes so many calls, and adds what it cost for one.
     pub fn measure(&mut self, counter: &mut Option<Cycles>, many: usize, run: impl FnOnce()) {
         let first = counter.as_mut().and_then(Cycles::now);
-        let start = Instant::now();
+        let start = clock::now();
         run();
-        let time = start.elapsed();
+        let time = clock::now() - start;
         let last = counter.as_mut().and_then(Cycles::now);
         let many = many as f64;
         let cycles = first
@@ -93,14 +89,30 @@ impl Cost {
     }
 }
 
-/// Runs rounds until the time is up, and returns how many.
-pub fn in_rounds(mut round: impl FnMut()) -> usize {
-    let start = Instant::now();
-    for rounds in 0..ROUNDS {
-        if rounds >= FEWEST_ROUNDS && start.elapsed() > TIME {
-            return rounds;
+/// Rounds over all lines of a table and all contestants: fewer than the most where the time is up.
+#[derive(Clone, Copy)]
+pub struct Rounds {
+    pub most: usize,
+    pub fewest: usize,
+    pub time: Duration,
+}
+
+impl Rounds {
+    pub const USUAL: Rounds = Rounds {
+        most: 200,
+        fewest: 3,
+        time: Duration::from_secs(4),
+    };
+
+    /// Runs the rounds, and returns how many.
+    pub fn run(self, mut round: impl FnMut()) -> usize {
+        let start = Instant::now();
+        for rounds in 0..self.most {
+            if rounds >= self.fewest && start.elapsed() > self.time {
+                return rounds;
+            }
+            round();
         }
-        round();
+        self.most
     }
-    ROUNDS
 }

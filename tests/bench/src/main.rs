@@ -2,10 +2,17 @@
 
 mod checking;
 mod ciphers;
+mod fetching;
+mod large;
 mod sealing;
+mod walking;
 mod writing;
 
+use std::rc::Rc;
+
 use bench::counter::Cycles;
+use bench::table::SUITES;
+use large::{LargeBook, UNITS};
 
 fn main() {
     let mut counter = Cycles::open();
@@ -16,4 +23,9 @@ fn main() {
     writing::table(&mut counter);
     println!();
     checking::table(&mut counter);
+    println!();
+    let books = SUITES.map(|(_, suite)| Rc::new(LargeBook::new(suite, UNITS)));
+    fetching::table(&books, &mut counter);
+    println!();
+    walking::table(&books, &mut counter);
 }

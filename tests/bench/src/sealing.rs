@@ -2,10 +2,11 @@
 
 use bench::baseline;
 use bench::calls::CallList;
-use bench::cost::Per;
+use bench::cost::{Per, Rounds};
 use bench::counter::Cycles;
 use bench::table::{Contestant, Line, Table, SUITES};
 use reference::random::Random;
+use sealed_book::raw;
 
 /// Lengths of the texts, of the header that is sealed along, and of the nonce.
 const TEXTS: [usize; 3] = [16, 200, 8192];
@@ -76,8 +77,8 @@ fn library(data: &mut Data) {
         ..
     } = data;
     let done = match data.direction {
-        Direction::Seal => sealed_book::seal(c, s, key, nonce, header, text, out).is_ok(),
-        Direction::Open => sealed_book::open(c, s, key, nonce, header, sealed, out).is_ok(),
+        Direction::Seal => raw::seal(c, s, key, nonce, header, text, out).is_ok(),
+        Direction::Open => raw::open(c, s, key, nonce, header, sealed, out).is_ok(),
     };
     assert!(done);
 }
@@ -132,6 +133,8 @@ fn lines() -> Vec<Line<Data>> {
                     size: len,
                     later: direction == Direction::Open,
                     data: Data::new(suite, direction, len),
+                    less: None,
+                    turns: 1,
                 });
             }
         }
@@ -154,6 +157,7 @@ pub fn table(counter: &mut Option<Cycles>) {
         )],
         on_numbers: vec!["Ratios are of ns/B; open/seal is the library's opening to its sealing."],
         per: Per::Byte,
+        rounds: Rounds::USUAL,
         head: format!("{:<16}{:>6}", "suite", "bytes"),
         later: Some(["open/", "seal"]),
         lines: lines(),

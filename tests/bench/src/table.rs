@@ -3,7 +3,7 @@
 use std::hint::black_box;
 use std::iter::zip;
 
-use crate::cost::{in_rounds, Cost, Per};
+use crate::cost::{Cost, Per, Rounds};
 use crate::counter::Cycles;
 
 /// The suites that are measured, with their names.
@@ -15,7 +15,7 @@ pub struct Contestant<D> {
     about: String,
     /// The size, about, of one measurement.
     size: usize,
-    /// The greatest size of the lines that it is measured on.
+    /// The greatest size of what it is measured on.
     most: usize,
     run: fn(&mut D),
     /// Whether it does all that the library does, and leaves the same.
@@ -67,9 +67,23 @@ impl<D> Contestant<D> {
         Contestant::new("C", about, size, run)
     }
 
-    /// The same, but not measured on lines of a greater size.
+    /// The same, but on lines of a greater size measured on their lesser data, or not at all.
     pub fn up_to(self, most: usize) -> Contestant<D> {
         Contestant { most, ..self }
+    }
+
+    /// Measures it on a line once.
+    fn measure(&self, per: Per, line: &mut Line<D>, cost: &mut Cost, counter: &mut Option<Cycles>) {
+        let Some((size, data)) = line.data_for(self) else {
+            return;
+        };
+        let runs = self.size.div_ceil(size);
+        cost.measure(counter, per.many(runs, size), || {
+            for _ in 0..runs {
+                (self.run)(black_box(data));
+            }
+        });
+        black_box(data);
     }
 }
 
@@ -82,6 +96,20 @@ pub struct Line<D> {
     /// Whether the library is held against the last line that is not a later one, too.
     pub later: bool,
     pub data: D,
+    /// Data of a lesser size, and that size, for those who are not measured on the line's own.
+    pub less: Option<(usize, D)>,
+    /// How many turns it has in a round.
+    pub turns: usize,
+}
+
+impl<D> Line<D> {
+    /// What a contestant is measured on, and its size.
+    fn data_for(&mut self, contestant: &Contestant<D>) -> Option<(usize, &mut D)> {
+        if self.size <= contestant.most {
+            return Some((self.size, &mut self.data));
+        }
+        self.less.as_mut().map(|(size, data)| (*size, data))
+    }
 }
 
 /// What is measured, and what is said of it.
@@ -93,6 +121,7 @@ pub struct Table<D> {
     pub notes: Vec<String>,
     pub on_numbers: Vec<&'static str>,
     pub per: Per,
+    pub rounds: Rounds,
     /// The head of what stands before the costs.
     pub head: String,
     /// The head of the ratio that later lines have, where there are such.
@@ -100,6 +129,12 @@ pub struct Table<D> {
     pub lines: Vec<Line<D>>,
     /// What a run leaves in the data.
     pub left: fn(&D) -> &[u8],
+}
+
+/// What is said of every number.
+pub fn least_of(rounds: usize) -> String {
+    let clock = "by the time that this program itself has run";
+    format!("Each number is the least of {rounds} rounds, in which all took turns, {clock}.")
 }
 
 /// A column of the library's ratios.
@@ -128,12 +163,16 @@ impl<D: Clone> Table<D> {
         }
     }
 
-    /// Sees that those who do the same leave the same on this line.
+    /// Sees that those who do the same leave the same on this line, or on its lesser data.
     fn assert_agreement(&self, line: &Line<D>) {
+        let (size, data) = match &line.less {
+            Some((size, data)) => (*size, data),
+            None => (line.size, &line.data),
+        };
         let mut done = Vec::new();
-        let whole = |one: &&Contestant<D>| one.whole && line.size <= one.most;
+        let whole = |one: &&Contestant<D>| one.whole && size <= one.most;
         for contestant in self.contestants.iter().filter(whole) {
-            let mut data = line.data.clone();
+            let mut data = data.clone();
             (contestant.run)(&mut data);
             done.push(data);
         }
@@ -145,19 +184,11 @@ impl<D: Clone> Table<D> {
     /// The rounds, and each line's costs, of the contestants in their order.
     fn measured(&mut self, counter: &mut Option<Cycles>) -> (usize, Vec<Vec<Cost>>) {
         let mut costs = vec![vec![Cost::NONE; self.contestants.len()]; self.lines.len()];
-        let rounds = in_rounds(|| {
+        let rounds = self.rounds.run(|| {
             for (line, costs) in zip(&mut self.lines, &mut costs) {
-                for (contestant, cost) in zip(&self.contestants, costs) {
-                    if line.size > contestant.most {
-                        continue;
-                    }
-                    let runs = contestant.size.div_ceil(line.size);
-                    cost.measure(counter, self.per.many(runs, line.size), || {
-                        for _ in 0..runs {
-                            (contestant.run)(black_box(&mut line.data));
-                        }
-                    });
-                    black_box(&line.data);
+                for _ in 0..line.turns {
+                    let contestants = zip(&self.contestants, &mut *costs);
+                    contestants.for_each(|(one, cost)| one.measure(self.per, line, cost, counter));
                 }
             }
         });
@@ -172,7 +203,7 @@ impl<D: Clone> Table<D> {
         for note in &self.notes {
             println!("{note}");
         }
-        println!("Each number is the least of {rounds} rounds, in which all took turns.");
+        println!("{}", least_of(rounds));
         for note in &self.on_numbers {
             println!("{note}");
         }
@@ -190,7 +221,7 @@ impl<D: Clone> Table<D> {
         let cells = costs.iter().map(|cost| cost.cells(self.per));
         self.print_row(&line.cells, cells, |ratio| match ratio.to {
             None if !line.later => "-".to_string(),
-            Some(i) if line.size > self.contestants[i].most => "-".to_string(),
+            Some(i) if costs[i].nanoseconds.is_infinite() => "-".to_string(),
             to => {
                 let other = to.map_or(earlier, |i| costs[i]);
                 let value = costs[0].nanoseconds / other.nanoseconds;

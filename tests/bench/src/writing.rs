@@ -4,7 +4,7 @@ use std::hint::black_box;
 
 use bench::baseline;
 use bench::calls::CallList;
-use bench::cost::Per;
+use bench::cost::{Per, Rounds};
 use bench::counter::Cycles;
 use bench::table::{Contestant, Line, Table, SUITES};
 use reference::book::{field, Unit};
@@ -114,6 +114,8 @@ fn lines() -> Vec<Line<Data>> {
                 size: len,
                 later: add > 1,
                 data: Data::new(suite, len, add),
+                less: None,
+                turns: 1,
             });
         }
     }
@@ -136,6 +138,7 @@ pub fn table(counter: &mut Option<Cycles>) {
         ],
         on_numbers: vec!["Ratios are of ns; to first is the library's late add to its first one."],
         per: Per::Call,
+        rounds: Rounds::USUAL,
         head: format!("{:<11}{:>6}{:>7}", "suite", "bytes", "add"),
         later: Some(["to", "first"]),
         lines: lines(),

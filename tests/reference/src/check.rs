@@ -82,7 +82,7 @@ pub fn check(key: &[u8], book: &[u8]) -> Result<(u64, u64), u32> {
 
 /// The value of the field at the place, which is moved behind it; refusal 14 where the tag is another,
 /// the length not one of these, or bytes are missing.
-fn field<'a>(
+pub(crate) fn field<'a>(
     book: &'a [u8],
     place: &mut usize,
     tag: u8,
@@ -99,7 +99,7 @@ fn field<'a>(
 }
 
 /// "All numbers in values and texts are big-endian too."
-fn two_byte_number(bytes: &[u8]) -> usize {
+pub(crate) fn two_byte_number(bytes: &[u8]) -> usize {
     usize::from(u16::from_be_bytes([bytes[0], bytes[1]]))
 }
 

@@ -1,9 +1,10 @@
-//! The books of book.txt: checked; and the accepted ones taken apart and laid out again, at once and
-//! step by step.
+//! The books of book.txt: checked; the accepted ones taken apart and laid out again, at once and step by
+//! step; and their units fetched.
 
 use reference::book::Book;
 use reference::check::check;
 use reference::cipher::SUITES;
+use reference::fetch::fetch;
 use reference::vectors::book_vectors;
 use reference::writer::start;
 
@@ -50,4 +51,26 @@ fn accepted_books_are_laid_out_again() {
         suites.push((book.cipher, book.steps));
     }
     assert_eq!(suites, SUITES);
+}
+
+/// The units of an accepted book are those that it is taken apart into; the first refusal of fetching one
+/// unit after the other is checking's, with 16 at the end of an accepted book.
+#[test]
+fn units_are_fetched() {
+    for v in book_vectors() {
+        let key = v.key[..].try_into().expect("16 bytes");
+        let mut units = Vec::new();
+        let refusal = loop {
+            match fetch(&v.key, &v.book, units.len() as u64, 8_192) {
+                Ok(unit) => units.push((unit.source, unit.target)),
+                Err(number) => break number,
+            }
+        };
+        assert_eq!(refusal, v.answer.err().unwrap_or(16), "line {}", v.line);
+        if let Some(book) = Book::taken_apart(&key, &v.book) {
+            let expected = book.units.into_iter();
+            let expected: Vec<_> = expected.map(|unit| (unit.source, unit.target)).collect();
+            assert_eq!(units, expected, "line {}", v.line);
+        }
+    }
 }

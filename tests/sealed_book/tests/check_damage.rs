@@ -3,7 +3,10 @@
 mod common;
 
 use common::checking::{accepts, checked, refuses};
-use common::parts::{close_fields, random_book, unit_fields, written, Parts};
+use common::parts::{
+    close_fields, random_book, renumber, three_units, unit_fields, written, Parts, CIPHERTEXT,
+};
+use common::spoiling::damage;
 use common::swapped;
 use common::writing::unit;
 use reference::book::Book;
@@ -97,18 +100,6 @@ fn bytes_put_in() {
             }
         }
     }
-}
-
-/// A book with three units of the same lengths.
-fn three_units(random: &mut Random, suite: (u8, u8)) -> Book {
-    let mut book = Book::random(random, suite);
-    book.units = (0..3).map(|_| unit(random, 20, 21)).collect();
-    book
-}
-
-/// Writes the number into a unit's field 10.
-fn renumber(unit: &mut [u8], number: u8) {
-    unit[4] = number;
 }
 
 #[test]
@@ -242,9 +233,6 @@ fn parts_of_another_book() {
     }
 }
 
-/// Where a unit's ciphertext begins.
-const CIPHERTEXT: usize = 12;
-
 /// Two blocks of a unit's ciphertext change places, those too whose numbers have the same low byte.
 #[test]
 fn blocks_exchanged_in_a_unit() {
@@ -333,34 +321,6 @@ fn sealed_for_another_place() {
         let mut codes = unit(1, 1, *b"ende");
         codes[0][5..].copy_from_slice(b"deen");
         change(codes, 8, "codes exchanged after the sealing");
-    }
-}
-
-/// One of several changes to the bytes of a book.
-fn damage(random: &mut Random, book: &mut Vec<u8>, other: &[u8]) {
-    let at = random.below(book.len());
-    match random.below(8) {
-        0 => book[at] ^= 1 << random.below(8),
-        1 => book[at] = random.one_of(&[0x00, 0x01, 0x02, 0x10, 0x11, 0x12, 0x20, 0xFF]),
-        2 => book.truncate(at),
-        3 => drop(book.remove(at)),
-        4 => book.insert(at, random.below(256) as u8),
-        5 => {
-            let len = random.below(book.len() - at) + 1;
-            book.drain(at..at + len);
-        }
-        6 => {
-            let (from, len) = (random.below(other.len()), random.below(60));
-            let len = len.min(book.len() - at).min(other.len() - from);
-            book[at..at + len].copy_from_slice(&other[from..from + len]);
-        }
-        _ => {
-            let with = random.below(book.len());
-            book.swap(at, with);
-        }
-    }
-    if book.is_empty() {
-        book.push(1);
     }
 }
 

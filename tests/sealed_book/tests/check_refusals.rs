@@ -5,9 +5,10 @@ mod common;
 use common::causes::{self, first_is_given, sets, Cause as _};
 use common::checking::{accepts, check_gives, checked, refuses, Answer};
 use common::parts::{close_fields, random_book, unit_fields, written, Parts};
+use common::spoiling::{bad_ciphertext, bad_codes, bad_text, spoil, text, LONG_TEXTS};
 use common::writing::unit;
 use common::{codes_with_each_byte, UNLISTED};
-use reference::book::{field, Book};
+use reference::book::Book;
 use reference::cipher::{listed, SUITES};
 use reference::random::Random;
 
@@ -64,66 +65,6 @@ impl causes::Cause for Cause {
             UnitNumber | Count => 15,
         }
     }
-}
-
-/// Four letters that are no allowed pair.
-fn bad_codes(random: &mut Random) -> [u8; 4] {
-    let mut codes = *b"ende";
-    match random.below(3) {
-        0 => codes = *b"dede",
-        _ => {
-            let byte = random.one_of(&[0, b' ', b'0', b'A', b'Z', b'`', b'{', 0xE1]);
-            codes[random.below(4)] = byte;
-        }
-    }
-    codes
-}
-
-/// A text with this s and so many bytes after it.
-fn text(random: &mut Random, s: usize, after: usize) -> Vec<u8> {
-    let s = (s as u16).to_be_bytes();
-    [&s[..], &random.some_bytes(after)].concat()
-}
-
-/// A text whose s or t is out of range.
-fn bad_text(random: &mut Random) -> Vec<u8> {
-    let after = 1 + random.below(30);
-    let (s, after) = random.one_of(&[
-        (0, after),
-        (after + 1, after),
-        (after + 256, after),
-        (0xFFFF, after),
-        (4_097, 4_097),
-        (4_097, 8_192),
-        (1, 4_098),
-        (4_095, 8_192),
-    ]);
-    text(random, s, after)
-}
-
-/// Spoils one of the fields: another tag, another length, or bytes missing from somewhere in it on.
-fn spoil(random: &mut Random, fields: &mut Vec<Vec<u8>>, at: usize) {
-    let one = &mut fields[at];
-    match random.below(4) {
-        0 => {
-            let tags = [0x00, 0x01, 0x02, 0x10, 0x11, 0x12, 0x20, 0x21, 0xFF];
-            let others: Vec<u8> = tags.into_iter().filter(|tag| *tag != one[0]).collect();
-            one[0] = random.one_of(&others);
-        }
-        1 => one[1] ^= random.one_of(&[1, 0x40, 0x80]),
-        2 => one[2] = one[2].wrapping_add(random.one_of(&[1, 255])),
-        _ => {
-            let len = random.below(one.len());
-            one.truncate(len);
-            fields.truncate(at + 1);
-        }
-    }
-}
-
-/// Field 11 with too few or too many bytes.
-fn bad_ciphertext(random: &mut Random) -> Vec<u8> {
-    let len = random.one_of(&[0, 1, 2, 8_195, 8_196, 16_384]);
-    field(0x11, &random.some_bytes(len))
 }
 
 /// Key and bytes of a book whose last unit and close have these causes; before them stand the opening
@@ -444,22 +385,7 @@ fn every_short_text() {
 #[test]
 fn long_texts() {
     let mut random = Random::new(SEED + 9);
-    for (s, after, number) in [
-        (4_096, 4_096, None),
-        (4_097, 4_097, Some(12)),
-        (4_096, 4_095, Some(12)),
-        (4_096, 8_192, None),
-        (4_095, 8_191, None),
-        (4_097, 8_192, Some(12)),
-        (4_095, 8_192, Some(12)),
-        (8_192, 8_192, Some(12)),
-        (1, 4_097, None),
-        (1, 4_098, Some(12)),
-        (0, 4_096, Some(12)),
-        (4_096, 8_193, Some(14)),
-        (4_097, 8_193, Some(14)),
-        (4_096, 16_000, Some(14)),
-    ] {
+    for (s, after, number) in LONG_TEXTS {
         let text = text(&mut random, s, after);
         let name = format!("s {s} with {after} after it");
         let answer = of_text(&mut random, &text, &name);

@@ -6,6 +6,7 @@ use common::sealing::Given;
 use common::swapped;
 use reference::cipher::SUITES;
 use reference::random::Random;
+use sealed_book::raw;
 
 const SEED: u64 = 0x4441_4D47;
 
@@ -186,7 +187,7 @@ fn far_blocks_swapped() {
     let given = Given::random(&mut random, (1, 6), 12, len, len);
     let (cipher, steps) = given.suite;
     let mut body = vec![0; len + 16];
-    let answer = sealed_book::seal(
+    let answer = raw::seal(
         cipher,
         steps,
         &given.key,

@@ -22,6 +22,8 @@ fn about_the_book() -> Vec<String> {
     let closed = passed(added.close(&mut book));
     let [started, added, closed] = [started, added, closed].map(|writer| hex(&writer.encoded()));
     let zeros = hex(&[0; 64]);
+    let untouched = hex(&[0xFF; 12]);
+    let unit = hex(b"valveVentil\xFF");
     vec![
         format!("start 0 {started}"),
         format!("add 0 {added}"),
@@ -33,6 +35,19 @@ fn about_the_book() -> Vec<String> {
         "place 84 units 1 calls 7".to_string(),
         "check 14 units 7 calls 8".to_string(),
         "check 0 units 1 calls 7".to_string(),
+        format!("fetch 7 {untouched}"),
+        "source 7 target 8".to_string(),
+        format!("fetch 16 {untouched}"),
+        "source 7 target 8".to_string(),
+        format!("fetch 0 {unit}"),
+        "source 5 target 6".to_string(),
+        format!("fetch at 0 {unit}"),
+        format!("fetch at 16 {unit}"),
+        "fetch 2 ".to_string(),
+        "ciphertext 28 13".to_string(),
+        "ciphertext 0 0".to_string(),
+        "ciphertext 0 0".to_string(),
+        format!("texts {}", 18 * 17 / 2),
         "check 8 units 7 calls 8".to_string(),
         "check 2 units 7 calls 8".to_string(),
         "check 14 units 7 calls 8".to_string(),

@@ -6,6 +6,7 @@ use common::sealing::Given;
 use reference::cipher::SUITES;
 use reference::random::Random;
 use reference::sealing::{assembled, calls};
+use sealed_book::raw;
 
 const SEED: u64 = 0x4C49_4D54;
 
@@ -65,7 +66,7 @@ fn longest_header_and_text() {
         let tweaks: Vec<u8> = calls.iter().flat_map(|call| call.tweak).collect();
         let mut blocks: Vec<u8> = calls.iter().flat_map(|call| call.block).collect();
         let key = given.key[..].try_into().unwrap();
-        sealed_book::encipher_blocks(1, 6, key, &tweaks, &mut blocks).unwrap();
+        raw::encipher_blocks(1, 6, key, &tweaks, &mut blocks).unwrap();
         let enciphered: Vec<[u8; 16]> = blocks
             .chunks_exact(16)
             .map(|block| block.try_into().unwrap())

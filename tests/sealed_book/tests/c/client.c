@@ -85,6 +85,41 @@ int main(void) {
     printf("check %u units %u calls %u\n", (unsigned)returned, (unsigned)units, (unsigned)calls);
     returned = sb_check(key, sizeof key, book, 84, &units, &calls);
     printf("check %u units %u calls %u\n", (unsigned)returned, (unsigned)units, (unsigned)calls);
+
+    /* its unit, walked to and at its place, an output one byte short, no such unit, and nothing lent; its ciphertext */
+    uint8_t out[12];
+    uint64_t source = 7, target = 8, at = 9, part = 9;
+    memset(out, 0xFF, sizeof out);
+    returned = sb_fetch(key, sizeof key, book, 84, 0, out, 10, &source, &target);
+    print("fetch", returned, out, sizeof out);
+    printf("source %u target %u\n", (unsigned)source, (unsigned)target);
+    returned = sb_fetch(key, sizeof key, book, 84, 1, out, sizeof out, &source, &target);
+    print("fetch", returned, out, sizeof out);
+    printf("source %u target %u\n", (unsigned)source, (unsigned)target);
+    returned = sb_fetch(key, sizeof key, book, 84, 0, out, sizeof out, &source, &target);
+    print("fetch", returned, out, sizeof out);
+    printf("source %u target %u\n", (unsigned)source, (unsigned)target);
+    memset(out, 0xFF, sizeof out);
+    returned = sb_fetch_at(key, sizeof key, book, 84, 0, 16, out, sizeof out, &source, &target);
+    print("fetch at", returned, out, sizeof out);
+    returned = sb_fetch_at(key, sizeof key, book, 84, 1, 16 + 33 + (size_t)source + (size_t)target, out, sizeof out, &source, &target);
+    print("fetch at", returned, out, sizeof out);
+    returned = sb_fetch(NULL, 0, NULL, 0, 0, NULL, 0, &source, &target);
+    print("fetch", returned, NULL, 0);
+    sb_ciphertext(book, 84, 0, &at, &part);
+    printf("ciphertext %u %u\n", (unsigned)at, (unsigned)part);
+    sb_ciphertext(book, 84, 1, &at, &part);
+    printf("ciphertext %u %u\n", (unsigned)at, (unsigned)part);
+    at = 9, part = 9;
+    sb_ciphertext(NULL, 0, UINT64_MAX, &at, &part);
+    printf("ciphertext %u %u\n", (unsigned)at, (unsigned)part);
+
+    /* each refusal has words of its own, and a number that is none has others */
+    unsigned i, j, texts = 0;
+    for (i = 0; i <= SB_NO_UNIT + 1; i++)
+        for (j = 0; j < i; j++) texts += strcmp(sb_refusal_text(i), sb_refusal_text(j)) != 0;
+    printf("texts %u\n", texts);
+
     units = 7, calls = 8;
     book[83] ^= 1;
     returned = sb_check(key, sizeof key, book, 84, &units, &calls);

@@ -5,26 +5,13 @@ use std::hint::black_box;
 use reference::book::Book;
 use reference::check::check;
 use sealed_book::foreign::sb_check;
-use sealed_book::Checked;
+use sealed_book::raw::{self, Checked};
 
+use super::guarded::{Numbers, GUARD};
 use super::{assert_same, pointer, refusal};
-
-/// Bytes before and after what is lent to be read.
-const GUARD: [u8; 32] = [0x5A; 32];
 
 /// Unit count and call total, or a refusal's number.
 pub type Answer = Result<(u64, u64), u32>;
-
-/// The numbers that a call finds, and leaves where it refuses, with guards around them.
-const MARKS: [u64; 7] = [
-    0x1111_1111_1111_1111,
-    0x2222_2222_2222_2222,
-    0x0123_4567_89AB_CDEF,
-    0x3333_3333_3333_3333,
-    0xFEDC_BA98_7654_3210,
-    0x4444_4444_4444_4444,
-    0x5555_5555_5555_5555,
-];
 
 /// Has the library check the book as C does, with null for a slice of length 0, and through the
 /// wrapper; holds all that is left to the answer.
@@ -34,28 +21,27 @@ pub fn check_gives(key: &[u8], book: &[u8], answer: Answer, name: &str) {
     let mut lent = rooms.clone();
     let [key, book] = [0, 1].map(|i| &lent[i][GUARD.len()..lent[i].len() - GUARD.len()]);
 
-    let mut numbers = MARKS;
-    let place = numbers.as_mut_ptr();
-    // SAFETY: each slice is given with its length, and both numbers are in the array.
+    let mut numbers = Numbers::BEFORE;
+    let [units, calls] = numbers.pointers();
+    // SAFETY: each slice is given with its length, and both numbers are there.
     let returned = unsafe {
         sb_check(
             pointer(key),
             key.len(),
             pointer(book),
             book.len(),
-            place.add(2),
-            place.add(4),
+            units,
+            calls,
         )
     };
-    let mut expected = MARKS;
-    if let Ok((units, calls)) = answer {
-        (expected[2], expected[4]) = (units, calls);
-    }
+    let expected = answer.map_or(Numbers::BEFORE, |(units, calls)| {
+        Numbers::with(units, calls)
+    });
     assert_eq!(returned, answer.err().unwrap_or(0), "{}", name());
     assert_eq!(numbers, expected, "units and calls, {}", name());
 
     let expected = answer.map(|(units, calls)| Checked { units, calls });
-    let returned = sealed_book::check(key, book);
+    let returned = raw::check(key, book);
     assert_eq!(returned, expected.map_err(refusal), "{}", name());
     black_box(&mut lent);
     for (lent, room) in lent.iter().zip(&rooms) {

@@ -1,18 +1,22 @@
 //! Both directions of a cipher, in the library and in the reference; sealing; writing and checking a
-//! book; and causes of refusal.
+//! book, and fetching from it; and causes of refusal.
 
 // Each test file uses a part of this.
 #![allow(dead_code)]
 
 pub mod causes;
 pub mod checking;
+pub mod fetching;
+pub mod guarded;
 pub mod parts;
 pub mod sealing;
+pub mod spoiled;
+pub mod spoiling;
 pub mod writing;
 
 use std::ptr::null;
 
-use sealed_book::Refusal;
+use sealed_book::{raw, Refusal};
 
 pub type Block = [u8; 16];
 
@@ -93,8 +97,8 @@ impl Direction {
         block: &mut Block,
     ) -> Result<(), Refusal> {
         match self {
-            Direction::Encipher => sealed_book::encipher(cipher, steps, key, tweak, block),
-            Direction::Decipher => sealed_book::decipher(cipher, steps, key, tweak, block),
+            Direction::Encipher => raw::encipher(cipher, steps, key, tweak, block),
+            Direction::Decipher => raw::decipher(cipher, steps, key, tweak, block),
         }
     }
 
@@ -107,8 +111,8 @@ impl Direction {
         blocks: &mut [u8],
     ) -> Result<(), Refusal> {
         match self {
-            Direction::Encipher => sealed_book::encipher_blocks(cipher, steps, key, tweaks, blocks),
-            Direction::Decipher => sealed_book::decipher_blocks(cipher, steps, key, tweaks, blocks),
+            Direction::Encipher => raw::encipher_blocks(cipher, steps, key, tweaks, blocks),
+            Direction::Decipher => raw::decipher_blocks(cipher, steps, key, tweaks, blocks),
         }
     }
 

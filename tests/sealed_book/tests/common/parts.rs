@@ -2,7 +2,7 @@
 
 use reference::book::{field, Book, Unit};
 use reference::random::Random;
-use sealed_book::{seal, Writer};
+use sealed_book::raw::{seal, Writer};
 
 use super::writing::unit;
 
@@ -16,9 +16,33 @@ pub fn random_book(random: &mut Random, suite: (u8, u8), units: usize, end: usiz
     book
 }
 
+/// A book with three units of the same lengths.
+pub fn three_units(random: &mut Random, suite: (u8, u8)) -> Book {
+    let mut book = Book::random(random, suite);
+    book.units = (0..3).map(|_| unit(random, 20, 21)).collect();
+    book
+}
+
+/// Writes the number into a unit's field 10.
+pub fn renumber(unit: &mut [u8], number: u8) {
+    unit[4] = number;
+}
+
+/// Where a unit's ciphertext begins.
+pub const CIPHERTEXT: usize = 12;
+
 /// How many bytes a unit takes.
-fn unit_len(unit: &Unit) -> usize {
+pub fn unit_len(unit: &Unit) -> usize {
     33 + unit.source.len() + unit.target.len()
+}
+
+/// Where each unit begins, and then the close.
+pub fn places(book: &Book) -> Vec<usize> {
+    let mut places = vec![16];
+    for unit in &book.units {
+        places.push(places[places.len() - 1] + unit_len(unit));
+    }
+    places
 }
 
 /// The book's bytes as the library's writer leaves them, and that writer.

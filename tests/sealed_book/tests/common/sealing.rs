@@ -5,12 +5,10 @@ use std::hint::black_box;
 use reference::random::Random;
 use reference::sealing;
 use sealed_book::foreign::{sb_open, sb_seal};
-use sealed_book::Sealed;
+use sealed_book::raw::{self, Sealed};
 
+use super::guarded::Output;
 use super::refusal;
-
-/// Bytes before and after the output that a call must leave as they are.
-const GUARD: usize = 32;
 
 /// The numbers that a call finds, and leaves where it refuses.
 const LEN: u64 = 0x0123_4567_89AB_CDEF;
@@ -115,7 +113,7 @@ impl Given {
 
         let mut out = Output::new(out_len);
         let (cipher, steps) = self.suite;
-        let returned = sealed_book::seal(
+        let returned = raw::seal(
             cipher,
             steps,
             &lent.key,
@@ -170,7 +168,7 @@ impl Given {
 
         let mut out = Output::new(out_len);
         let (cipher, steps) = self.suite;
-        let returned = sealed_book::open(
+        let returned = raw::open(
             cipher,
             steps,
             &lent.key,
@@ -221,38 +219,4 @@ impl Given {
             body.len()
         )
     }
-}
-
-/// An output with guards around it, filled with bytes that are known.
-struct Output {
-    bytes: Vec<u8>,
-}
-
-impl Output {
-    fn new(len: usize) -> Output {
-        let bytes = (0..len + 2 * GUARD).map(filler).collect();
-        Output { bytes }
-    }
-
-    fn slice(&mut self) -> &mut [u8] {
-        let end = self.bytes.len() - GUARD;
-        &mut self.bytes[GUARD..end]
-    }
-
-    /// The result stands at the start; all after it, and the guards, are as they were.
-    fn assert_begins_with(&self, result: &[u8], name: &str) {
-        for (i, byte) in self.bytes.iter().enumerate() {
-            let in_result = i.checked_sub(GUARD).and_then(|i| result.get(i));
-            let expected = in_result.copied().unwrap_or_else(|| filler(i));
-            if *byte != expected {
-                let at = i as isize - GUARD as isize;
-                panic!("output byte {at} is {byte:02X}, not {expected:02X}: {name}");
-            }
-        }
-    }
-}
-
-/// What byte i of an output and its guards is before a call.
-fn filler(i: usize) -> u8 {
-    ((i as u64 + 1).wrapping_mul(0x9E37_79B9_7F4A_7C15) >> 56) as u8
 }

@@ -8,8 +8,8 @@ use reference::random::Random;
 use reference::writer as second;
 use reference::writer::Answer;
 use sealed_book::foreign::{sb_add, sb_close, sb_start};
-use sealed_book::raw::Bytes;
-use sealed_book::{Refusal, Writer};
+use sealed_book::raw::{Bytes, Writer};
+use sealed_book::Refusal;
 
 use super::{assert_same, pointer, refusal};
 

@@ -1,0 +1,176 @@
+//! Fetching in the library and in the reference, with every byte and number that is left compared.
+
+use std::hint::black_box;
+use std::ops::Range;
+
+use reference::book::{Book, Unit};
+use reference::fetch as second;
+use reference::fetch::Fetched;
+use sealed_book::foreign::{sb_ciphertext, sb_fetch, sb_fetch_at};
+
+use super::guarded::{Numbers, Output, GUARD};
+use super::{assert_same, pointer, refusal};
+
+/// An output in which every unit has room.
+pub const ROOM: usize = 8_192;
+
+/// Source and target, or a refusal's number.
+pub type Answer = Result<Fetched, u32>;
+
+/// What is fetched.
+#[derive(Clone, Copy, Debug, PartialEq)]
+pub enum Which {
+    /// Unit k, behind the walk.
+    Walked(u64),
+    /// The unit of a number, at a place.
+    Placed(u64, usize),
+}
+
+use Which::*;
+
+/// The unit as it is fetched.
+pub fn of(unit: &Unit) -> Fetched {
+    Fetched {
+        source: unit.source.clone(),
+        target: unit.target.clone(),
+    }
+}
+
+/// What is fetched of a book as it was written, with room in the output.
+pub fn of_book(book: &Book, k: u64) -> Answer {
+    let unit = usize::try_from(k).ok().and_then(|k| book.units.get(k));
+    unit.map(of).ok_or(16)
+}
+
+/// What the reference answers for an output of this length.
+pub fn answer_of(key: &[u8], book: &[u8], which: Which, out_len: usize) -> Answer {
+    match which {
+        Walked(k) => second::fetch(key, book, k, out_len),
+        Placed(number, at) => second::fetch_at(key, book, number, at, out_len),
+    }
+}
+
+/// Has the library fetch into an output of this length as C does, with null for a slice of length 0,
+/// and through the wrapper; holds all that is left to the answer.
+pub fn fetch_gives(
+    key: &[u8],
+    book: &[u8],
+    which: Which,
+    out_len: usize,
+    answer: &Answer,
+    name: &str,
+) {
+    let name = format!(
+        "{which:?}, key {}, book {} bytes, output {out_len} bytes, {name}",
+        key.len(),
+        book.len()
+    );
+    let rooms = [key, book].map(|bytes| [&GUARD, bytes, &GUARD].concat());
+    let mut lent = rooms.clone();
+    let [key, book] = [0, 1].map(|i| &lent[i][GUARD.len()..lent[i].len() - GUARD.len()]);
+    let (number, result) = match answer {
+        Ok(unit) => (0, unit.written()),
+        Err(number) => (*number, Vec::new()),
+    };
+
+    let mut out = Output::new(out_len);
+    let mut numbers = Numbers::BEFORE;
+    let [source, target] = numbers.pointers();
+    let out_start = out.pointer();
+    // SAFETY: each slice is given with its length, and both numbers are there.
+    let returned = unsafe {
+        let (key_start, book_start) = (pointer(key), pointer(book));
+        let (key_len, book_len) = (key.len(), book.len());
+        match which {
+            Walked(k) => sb_fetch(
+                key_start, key_len, book_start, book_len, k, out_start, out_len, source, target,
+            ),
+            Placed(number, at) => sb_fetch_at(
+                key_start, key_len, book_start, book_len, number, at, out_start, out_len, source,
+                target,
+            ),
+        }
+    };
+    let expected = match answer {
+        Ok(unit) => Numbers::with(unit.source.len() as u64, unit.target.len() as u64),
+        Err(_) => Numbers::BEFORE,
+    };
+    assert_eq!(returned, number, "{name}");
+    assert_eq!(numbers, expected, "lengths, {name}");
+    out.assert_begins_with(&result, &name);
+
+    let mut out = Output::new(out_len);
+    let returned = match which {
+        Walked(k) => sealed_book::raw::fetch(key, book, k, out.slice()),
+        Placed(number, at) => sealed_book::raw::fetch_at(key, book, number, at, out.slice()),
+    };
+    let expected = match answer {
+        Ok(unit) => Ok(sealed_book::raw::Fetched {
+            source: unit.source.len(),
+            target: unit.target.len(),
+        }),
+        Err(number) => Err(refusal(*number)),
+    };
+    assert_eq!(returned, expected, "{name}");
+    out.assert_begins_with(&result, &name);
+    black_box(&mut lent);
+    for (lent, room) in lent.iter().zip(&rooms) {
+        assert_same(lent, room, || format!("lent to be read: {name}"));
+    }
+}
+
+/// The same with the answer of the reference, which is returned.
+pub fn fetched(key: &[u8], book: &[u8], which: Which, out_len: usize, name: &str) -> Answer {
+    let answer = answer_of(key, book, which, out_len);
+    fetch_gives(key, book, which, out_len, &answer, name);
+    answer
+}
+
+/// The same, where it is known which unit is fetched: into outputs that are just long enough, longer,
+/// too short by one byte, and empty.
+pub fn fetches(key: &[u8], book: &[u8], which: Which, unit: &Unit, name: &str) {
+    let len = unit.source.len() + unit.target.len();
+    let answer = Ok(of(unit));
+    let of_reference = answer_of(key, book, which, len);
+    assert_eq!(of_reference, answer, "reference: {which:?}, {name}");
+    fetch_gives(key, book, which, len, &answer, name);
+    fetch_gives(key, book, which, len + 37, &answer, name);
+    fetch_gives(key, book, which, len - 1, &Err(7), name);
+    fetch_gives(key, book, which, 0, &Err(7), name);
+}
+
+/// The same, where it is known that nothing is fetched, whether the output has room or not.
+pub fn refuses(key: &[u8], book: &[u8], which: Which, number: u32, name: &str) {
+    let answer = answer_of(key, book, which, 60);
+    assert_eq!(answer, Err(number), "reference: {which:?}, {name}");
+    fetch_gives(key, book, which, 60, &answer, name);
+    if number != 7 {
+        fetch_gives(key, book, which, 0, &answer, name);
+    }
+}
+
+/// Has the library say where the ciphertext of unit k stands, as C does and through the wrapper.
+pub fn part_gives(book: &[u8], k: u64, part: Range<usize>, name: &str) {
+    let name = || format!("ciphertext of {k}, book {} bytes, {name}", book.len());
+    let room = [&GUARD, book, &GUARD].concat();
+    let mut lent = room.clone();
+    let book = &lent[GUARD.len()..room.len() - GUARD.len()];
+
+    let mut numbers = Numbers::BEFORE;
+    let [at, len] = numbers.pointers();
+    // SAFETY: the slice is given with its length, and both numbers are there.
+    unsafe { sb_ciphertext(pointer(book), book.len(), k, at, len) };
+    let expected = Numbers::with(part.start as u64, part.len() as u64);
+    assert_eq!(numbers, expected, "{}", name());
+    assert_eq!(sealed_book::raw::ciphertext(book, k), part, "{}", name());
+    black_box(&mut lent);
+    assert_same(&lent, &room, || format!("lent to be read: {}", name()));
+}
+
+/// The same with the answer of the reference, which is returned; it lies within the book.
+pub fn part(book: &[u8], k: u64, name: &str) -> Range<usize> {
+    let part = second::ciphertext(book, k);
+    part_gives(book, k, part.clone(), name);
+    assert!(part.end <= book.len(), "reference: {name}");
+    part
+}

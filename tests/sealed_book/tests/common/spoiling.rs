@@ -1,0 +1,168 @@
+//! Parts of a book that are refused, each for one cause; and damage at random.
+
+use reference::book::{field, Book};
+use reference::random::Random;
+
+use super::parts::{close_fields, unit_fields};
+use super::UNLISTED;
+
+/// Four letters that are no allowed pair.
+pub fn bad_codes(random: &mut Random) -> [u8; 4] {
+    let mut codes = *b"ende";
+    match random.below(3) {
+        0 => codes = *b"dede",
+        _ => {
+            let byte = random.one_of(&[0, b' ', b'0', b'A', b'Z', b'`', b'{', 0xE1]);
+            codes[random.below(4)] = byte;
+        }
+    }
+    codes
+}
+
+/// A text with this s and so many bytes after it.
+pub fn text(random: &mut Random, s: usize, after: usize) -> Vec<u8> {
+    let s = (s as u16).to_be_bytes();
+    [&s[..], &random.some_bytes(after)].concat()
+}
+
+/// A text whose s or t is out of range.
+pub fn bad_text(random: &mut Random) -> Vec<u8> {
+    let after = 1 + random.below(30);
+    let (s, after) = random.one_of(&[
+        (0, after),
+        (after + 1, after),
+        (after + 256, after),
+        (0xFFFF, after),
+        (4_097, 4_097),
+        (4_097, 8_192),
+        (1, 4_098),
+        (4_095, 8_192),
+    ]);
+    text(random, s, after)
+}
+
+/// Spoils one of the fields: another tag, another length, or bytes missing from somewhere in it on.
+pub fn spoil(random: &mut Random, fields: &mut Vec<Vec<u8>>, at: usize) {
+    let one = &mut fields[at];
+    match random.below(4) {
+        0 => {
+            let tags = [0x00, 0x01, 0x02, 0x10, 0x11, 0x12, 0x20, 0x21, 0xFF];
+            let others: Vec<u8> = tags.into_iter().filter(|tag| *tag != one[0]).collect();
+            one[0] = random.one_of(&others);
+        }
+        1 => one[1] ^= random.one_of(&[1, 0x40, 0x80]),
+        2 => one[2] = one[2].wrapping_add(random.one_of(&[1, 255])),
+        _ => {
+            let len = random.below(one.len());
+            one.truncate(len);
+            fields.truncate(at + 1);
+        }
+    }
+}
+
+/// Field 11 with too few or too many bytes.
+pub fn bad_ciphertext(random: &mut Random) -> Vec<u8> {
+    let len = random.one_of(&[0, 1, 2, 8_195, 8_196, 16_384]);
+    field(0x11, &random.some_bytes(len))
+}
+
+/// One of several changes to the bytes of a book.
+pub fn damage(random: &mut Random, book: &mut Vec<u8>, other: &[u8]) {
+    let at = random.below(book.len());
+    match random.below(8) {
+        0 => book[at] ^= 1 << random.below(8),
+        1 => book[at] = random.one_of(&[0x00, 0x01, 0x02, 0x10, 0x11, 0x12, 0x20, 0xFF]),
+        2 => book.truncate(at),
+        3 => drop(book.remove(at)),
+        4 => book.insert(at, random.below(256) as u8),
+        5 => {
+            let len = random.below(book.len() - at) + 1;
+            book.drain(at..at + len);
+        }
+        6 => {
+            let (from, len) = (random.below(other.len()), random.below(60));
+            let len = len.min(book.len() - at).min(other.len() - from);
+            book[at..at + len].copy_from_slice(&other[from..from + len]);
+        }
+        _ => {
+            let with = random.below(book.len());
+            book.swap(at, with);
+        }
+    }
+    if book.is_empty() {
+        book.push(1);
+    }
+}
+
+/// Opening fields, some units and perhaps a close, in each of which most, but not all, is as it must be:
+/// most seals are not.
+pub fn some_frames(random: &mut Random, book: &Book) -> Vec<u8> {
+    let rarely = |random: &mut Random| random.below(24) == 0;
+    let mut suite = (book.cipher, book.steps);
+    if rarely(random) {
+        suite = random.one_of(&UNLISTED);
+    }
+    let mut fields = vec![
+        field(0x01, &book.number.to_be_bytes()),
+        field(0x02, &[suite.0, suite.1]),
+    ];
+    let units = random.below(5);
+    for running in 0..units {
+        let number = running ^ usize::from(rarely(random));
+        let codes = match rarely(random) {
+            true => bad_codes(random),
+            false => *b"ende",
+        };
+        let m = match random.below(40) {
+            0 => random.one_of(&[0, 1, 2, 8_193, 8_194, 8_195, 9_000]),
+            _ => 3 + random.below(40),
+        };
+        if random.below(3) == 0 {
+            let s = random.below(m + 2);
+            let text = text(random, s, m);
+            fields.extend(unit_fields(book, running, number, codes, &text));
+        } else {
+            let mut head = field(0x10, &[0, number as u8, 0, 0, 0, 0]);
+            head[5..].copy_from_slice(&codes);
+            fields.push(head);
+            fields.push(field(0x11, &random.some_bytes(m)));
+            fields.push(field(0x12, &random.bytes::<16>()));
+        }
+    }
+    if !rarely(random) {
+        let count = units ^ usize::from(rarely(random));
+        let [head, mut tag] = close_fields(book, units, count);
+        if rarely(random) {
+            tag[3 + random.below(16)] ^= 1 << random.below(8);
+        }
+        fields.extend([head, tag]);
+    }
+    if rarely(random) {
+        let len = 1 + random.below(30);
+        fields.push(random.some_bytes(len));
+    }
+    if rarely(random) {
+        let at = random.below(fields.len());
+        spoil(random, &mut fields, at);
+    }
+    fields.concat()
+}
+
+/// Long texts: a source length s, how many bytes follow it, and the refusal: s and t at their limits, and
+/// a text at its limit.
+pub const LONG_TEXTS: [(usize, usize, Option<u32>); 14] = [
+    (4_096, 4_096, None),
+    (4_097, 4_097, Some(12)),
+    (4_096, 4_095, Some(12)),
+    (4_096, 8_192, None),
+    (4_095, 8_191, None),
+    (4_097, 8_192, Some(12)),
+    (4_095, 8_192, Some(12)),
+    (8_192, 8_192, Some(12)),
+    (1, 4_097, None),
+    (1, 4_098, Some(12)),
+    (0, 4_096, Some(12)),
+    (4_096, 8_193, Some(14)),
+    (4_097, 8_193, Some(14)),
+    (4_096, 16_000, Some(14)),
+];
