@@ -1,6 +1,6 @@
 /* Sealed books: the functions for C.
  *
- * Each function that does something returns 0, or the number of the refusal that it gives (SB_* below). After a refusal
+ * Each function that can refuse returns 0, or the number of the refusal that it gives (SB_* below). After a refusal
  * everything that was lent is as it was, but for the writer of a refused sb_start, which is then a closed one. No function
  * keeps a pointer, allocates, or writes anywhere but through the parameters that are not const. What is lent to be written
  * must not overlap anything else that is lent to the same call.
@@ -40,6 +40,31 @@ extern "C" {
 #define SB_FIELD_MALFORMED 14 /* a field of the book has another tag or length than it must have there, or bytes are missing or
                                  left over */
 #define SB_UNIT_NUMBER 15     /* a unit's number is not the running one, or the close's count is not the number of units */
+#define SB_NO_UNIT 16         /* the book has no unit of that number */
+
+/* A refusal in words: a sentence of static storage, for 0 "done", and never null. */
+static inline const char *sb_refusal_text(uint32_t refusal) {
+    switch (refusal) {
+    case 0: return "done";
+    case SB_SUITE_NOT_LISTED: return "the suite is none of the eight";
+    case SB_KEY_LENGTH: return "the key has not 16 bytes";
+    case SB_NONCE_LENGTH: return "the nonce has not 1 to 15 bytes";
+    case SB_HEADER_TOO_LONG: return "the header is over its limit";
+    case SB_SEALED_TOO_SHORT: return "the sealed bytes are under 16";
+    case SB_TEXT_TOO_LONG: return "the text is over its limit";
+    case SB_OUTPUT_TOO_SHORT: return "the output has no room for the result";
+    case SB_TAG_DIFFERS: return "the tag differs: something was changed, or the key is another";
+    case SB_WRITER_INVALID: return "the writer's numbers do not go together with this buffer";
+    case SB_WRITER_CLOSED: return "the writer is closed";
+    case SB_LANGUAGES: return "the language codes are not two different pairs of letters a to z";
+    case SB_SEGMENT_LENGTH: return "the source has not 1 to 4,096 bytes, or the target has more than 4,096";
+    case SB_TOO_MANY_UNITS: return "the book has 65,535 units already";
+    case SB_FIELD_MALFORMED: return "a field has a wrong tag or length, or bytes are missing or left over";
+    case SB_UNIT_NUMBER: return "a unit's number is not the running one, or the close's count is not that of the units";
+    case SB_NO_UNIT: return "the book has no unit of that number";
+    default: return "no refusal has this number";
+    }
+}
 
 /* Enciphers, or deciphers, one block of 16 bytes in place, under a key and a tweak of 16 bytes each.
  * Refusal: 1. */
@@ -123,6 +148,31 @@ uint32_t sb_close(uint8_t writer[SB_WRITER_LEN], uint8_t *buf, size_t buf_len);
  * languages' field, 13, 15, 11, 14 of its ciphertext's and tag's fields, 8, 12; of the close 14 of its fields, 15, 8, and 14 for
  * bytes left over. Then *units and *calls are as they were. */
 uint32_t sb_check(const uint8_t *key, size_t key_len, const uint8_t *book, size_t book_len, uint64_t *units, uint64_t *calls);
+
+/* Fetches unit k, from 0, under the book's key of 16 bytes: walks past the units before it without opening them, opens unit k, and
+ * writes its source and then its target to the start of out; every other byte of out stays as it was. *source_len and
+ * *target_len are then their lengths. 8,192 bytes of out are always enough. Nothing is written before the tag has been compared
+ * in full. The book need not have been checked: of the units before k only the fields, numbers and languages are looked at, and
+ * nothing behind k. A slice of length 0 may be null.
+ * Refusals, the first that applies in the order of the bytes: 2; 14 of the opening fields; 1; of each unit before k 14, 13, 15, 11,
+ * 14 as in sb_check; of unit k these, then 8, 12, and 7; where the close is met, 14, 15, 8, 14 as in sb_check, then 16. Then out,
+ * *source_len and *target_len are as they were. */
+uint32_t sb_fetch(const uint8_t *key, size_t key_len, const uint8_t *book, size_t book_len, uint64_t k,
+                  uint8_t *out, size_t out_len, uint64_t *source_len, uint64_t *target_len);
+
+/* The same of unit `number` where its fields begin at byte `at` of the book, for going from one unit to the next without a walk:
+ * unit 0 begins at 16, the next one 33 + *source_len + *target_len bytes further, in the books of this version. Any place may be
+ * given; what stands there is read as unit `number`, or as the close.
+ * Refusals: those of sb_fetch without the units before k. */
+uint32_t sb_fetch_at(const uint8_t *key, size_t key_len, const uint8_t *book, size_t book_len, uint64_t number, size_t at,
+                     uint8_t *out, size_t out_len, uint64_t *source_len, uint64_t *target_len);
+
+/* Where the ciphertext of unit k stands in the book: *len bytes from byte *at on. No key is needed, and nothing is opened. *at and
+ * *len are 0 where there is no unit k, or where sb_fetch would refuse the opening fields, a unit before k, or the fields, number
+ * or languages of k. The unit's language codes stand in the clear 7 bytes before its ciphertext, two bytes each. No seal is
+ * tested: that these bytes are a writer's is known only once sb_fetch or sb_check has accepted them. A slice of length 0 may be
+ * null. */
+void sb_ciphertext(const uint8_t *book, size_t book_len, uint64_t k, uint64_t *at, uint64_t *len);
 
 /* The writer's place, unit count and call total. */
 uint64_t sb_place(const uint8_t writer[SB_WRITER_LEN]);
