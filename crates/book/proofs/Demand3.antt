@@ -1,4 +1,4 @@
--- Demand 3 holds of every kind that is well formed, where check accepts exactly the books of that kind.
+-- Demand 3 holds: of each kind by the writer's half and the reader's, and check takes a book by its own kind.
 use mathlib.Core.Path.{_≡_, refl, sym, ap, subst, _∙_}
 use mathlib.Core.Bool.{Bool, true}
 use mathlib.Core.List.{List, map}
@@ -6,8 +6,10 @@ use Prim.Native.Nat.{ℕ}
 use native.Mathlib.Omega.{arith}
 use lib.ListN.{length}
 use Rattle.bits.specs.Bytes.{Bytes}
-use Rattle.fields.specs.Each.{Each, none, more}
-use Rattle.fields.specs.Kind.{Kind, WellFormed, writerKind}
+use Rattle.fields.specs.Each.{Each, none, more, EachFrom, noneFrom, moreFrom}
+use Rattle.fields.specs.Kind.{Kind, WellFormed}
+use Rattle.kinds.specs.Kind.{kindOf, bookKind}
+use Rattle.kinds.proofs.Formed.{formed, newest-is}
 use Rattle.format.specs.Layout.{bookBytes, bookLength, Bookable}
 use Rattle.format.specs.Sealings.{callTotal}
 use Rattle.fields.specs.Unit.{BookUnit, Allowed}
@@ -18,16 +20,17 @@ use Rattle.writer.specs.History.{add, Callable, adds, closes, Start, started, h
 use Rattle.writer.specs.Left.{laidOut, sealedOf, Leaves as WriterLeaves, writing}
 use Rattle.writer.proofs.Left.{writer-half}
 use Rattle.writer.proofs.Passed.{start-passes}
-use Rattle.reader.specs.Exact.{bookSealings, IsBook, ReaderHalf}
+use Rattle.reader.specs.Check.{checkAnswer}
+use Rattle.reader.specs.Exact.{bookSealings, IsBook}
+use Rattle.reader.proofs.BookKinds.{is-own}
 use Rattle.reader.proofs.Exact.{reader-half}
-use Rattle.parser.specs.Frame.{Readable}
-use Rattle.parser.proofs.Frames.{kind10-readable}
+use Rattle.parser.proofs.Frames.{readable}
 use Rattle.book.specs.Demand3.{History, after, unitsAdded, leaves, LeavesBook, Demand3}
 
 -- allowed units can be handed to adds
-adds-all : {kind : Kind} {us : List BookUnit} → Each (Allowed kind) us → Each (Callable kind) (map add us)
-adds-all none = none
-adds-all (more a each) = more (adds (a .given)) (adds-all each)
+adds-all : {kind : Kind} {n : ℕ} {us : List BookUnit} → EachFrom (Allowed kind) n us → Each (Callable kind) (map add us)
+adds-all noneFrom = none
+adds-all (moreFrom a each) = more (adds (a .given)) (adds-all each)
 
 -- whether a list has an accepted close
 abbrev closed : {kind : Kind} → History kind → Bool
@@ -108,26 +111,24 @@ module _ (kind : Kind) (formed : WellFormed kind) where
         left-total h (i .units) (w .0) (w .1) ∙ i .total,
       )
 
-pub demand3-of : (kind : Kind) → WellFormed kind → ReaderHalf kind → Demand3 kind
-unfolding laidOut
-demand3-of kind formed reads =
+-- the lists of each kind, and check by the book's own kind
+pub demand3 : Demand3
+unfolding checkAnswer laidOut
+demand3 =
     record {
-      apart = λ h. left kind formed h .apart;
-      total = λ h. (left kind formed h .total ∙ left kind formed h .sum, left kind formed h .total);
+      apart = λ k h. left (kindOf k) (formed k) h .apart;
+      total = λ k h. let l = left (kindOf k) (formed k) h in (l .total ∙ l .sum, l .total);
       exact = λ key x keyBytes bytes n t. (
-        λ e. is-left kind formed bytes (reads .accepted key x n t keyBytes bytes e),
-        λ (h, l, count, total). reads .accepts key x n t (left-is kind formed h l count total),
+        λ e.
+            let k = bookKind x in
+            let (h, l, count, total) = is-left (kindOf k) (formed k) bytes (reader-half (kindOf k) (readable k) .accepted key x n t keyBytes bytes e) in
+            (k, h, l, count, total),
+        λ (k, h, l, count, total). reader-half (kindOf (bookKind x)) (readable (bookKind x)) .accepts key x n t (is-own k (left-is (kindOf k) (formed k) h l count total)),
       );
-      one = λ h₁ h₂ k e.
-          let l₁ = left kind formed h₁ in
-          let l₂ = left kind formed h₂ in
-          laid-one kind formed (closed h₁) (closed h₂) (l₁ .bookable) (l₂ .bookable) k (sym (l₁ .before) ∙ e ∙ l₂ .before) .2;
-      written = writer-half kind formed;
+      one = λ k h₁ h₂ same e.
+          let l₁ = left (kindOf k) (formed k) h₁ in
+          let l₂ = left (kindOf k) (formed k) h₂ in
+          laid-one (kindOf k) (formed k) (closed h₁) (closed h₂) (l₁ .bookable) (l₂ .bookable) same (sym (l₁ .before) ∙ e ∙ l₂ .before) .2;
+      written = λ k. writer-half (kindOf k) (formed k);
+      newest = newest-is;
     }
-
--- for every kind that can be read, and so for the kind in the contracts of start, add, close and check
-pub demand3-readable : (kind : Kind) → Readable kind → Demand3 kind
-demand3-readable kind r = demand3-of kind (r .wellFormed) (reader-half kind r)
-
-pub demand3 : Demand3 writerKind
-demand3 = demand3-readable writerKind kind10-readable

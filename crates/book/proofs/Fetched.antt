@@ -5,58 +5,59 @@ use Prim.Native.Nat.{ℕ, _≤_}
 use native.Mathlib.Omega.{arith}
 use lib.ListN.{length}
 use Rattle.bits.specs.Bytes.{Bytes}
-use Rattle.fields.specs.Kind.{Kind, writerKind}
+use Rattle.kinds.specs.declared.Kind.{Kind as BookKind}
+use Rattle.kinds.specs.Kind.{kindOf}
+use Rattle.kinds.proofs.Formed.{formed}
 use Rattle.fields.specs.Unit.{BookUnit}
 use Rattle.format.specs.Layout.{bookBytes, Bookable}
-use Rattle.parser.specs.Frame.{Readable}
-use Rattle.parser.proofs.Frames.{kind10-readable}
 use Rattle.reader.specs.Check.{checkAnswer}
 use Rattle.reader.specs.declared.check.CheckAnswer.the-variants.{Accepted}
-use Rattle.fetch.specs.Exact.{HandsOut, NoUnit, PartOf}
+use Rattle.fetch.specs.Exact.{HandsOut, NoUnit, PartOf, StandsAt, SaysClear}
 use Rattle.fetch.proofs.Exact.{fetches-units}
 use Rattle.book.specs.Demand3.{History, after, unitsAdded, LeavesBook}
 use Rattle.book.specs.Fetched.{FetchesBook, FetchLaw}
-use Rattle.book.proofs.Demand3.{left-bookable, left-book, left-counted, demand3-readable}
+use Rattle.book.proofs.Demand3.{left-bookable, left-book, left-counted, demand3}
 
-module _ (kind : Kind) (readable : Readable kind) (h : History kind) {key x : List ℕ} (l : LeavesBook h key x) where
+module _ (q : BookKind) (h : History (kindOf q)) {key x : List ℕ} (l : LeavesBook h key x) where
   -- a unit of the list
   module _ (before : List BookUnit) (u : BookUnit) (behind : List BookUnit) (e : unitsAdded h ≡ before ++ u ∷ behind) where
-    same : bookBytes kind (h .start .suite) key (h .start .number) (before ++ u ∷ behind) ≡ x
-    same = ap (bookBytes kind (h .start .suite) key (h .start .number)) (sym e) ∙ left-book kind (readable .wellFormed) h l
+    same : bookBytes (kindOf q) (h .start .suite) key (h .start .number) (before ++ u ∷ behind) ≡ x
+    same = ap (bookBytes (kindOf q) (h .start .suite) key (h .start .number)) (sym e) ∙ left-book (kindOf q) (formed q) h l
 
-    bookable : Bookable kind (h .start .suite) key (h .start .number) (before ++ u ∷ behind)
-    bookable = subst (Bookable kind (h .start .suite) key (h .start .number)) e (left-bookable kind (readable .wellFormed) h l)
+    bookable : Bookable (kindOf q) (h .start .suite) key (h .start .number) (before ++ u ∷ behind)
+    bookable = subst (Bookable (kindOf q) (h .start .suite) key (h .start .number)) e (left-bookable (kindOf q) (formed q) h l)
 
-    unit-of : HandsOut kind key x (length before) u
-    unit-of = rw same at (fetches-units kind readable .unit (h .start .suite) key (h .start .number) before u behind bookable)
+    unit-of : HandsOut key x (length before) u
+    unit-of = rw same at (fetches-units q .unit (h .start .suite) key (h .start .number) before u behind bookable)
 
-    part-of : PartOf kind (h .start .suite) key (h .start .number) before u x
-    part-of = rw same at (fetches-units kind readable .part (h .start .suite) key (h .start .number) before u behind bookable)
+    part-of : PartOf (kindOf q) (h .start .suite) key (h .start .number) before u x
+    part-of = rw same at (fetches-units q .part (h .start .suite) key (h .start .number) before u behind bookable)
 
-  none-of : (k : ℕ) → length (unitsAdded h) ≤ k → NoUnit kind key x k
+    placed-of : StandsAt (kindOf q) (h .start .suite) key (h .start .number) before u x
+    placed-of = rw same at (fetches-units q .placed (h .start .suite) key (h .start .number) before u behind bookable)
+
+    clear-of : SaysClear (kindOf q) (h .start .suite) key (h .start .number) before u x
+    clear-of = rw same at (fetches-units q .clear (h .start .suite) key (h .start .number) before u behind bookable)
+
+  none-of : (k : ℕ) → length (unitsAdded h) ≤ k → NoUnit key x k
   none-of k past =
-      rw (left-book kind (readable .wellFormed) h l) at
-      (fetches-units kind readable .none (h .start .suite) key (h .start .number) (unitsAdded h) (left-bookable kind (readable .wellFormed) h l) k past)
+      rw (left-book (kindOf q) (formed q) h l) at
+      (fetches-units q .none (h .start .suite) key (h .start .number) (unitsAdded h) (left-bookable (kindOf q) (formed q) h l) k past)
 
   fetches : (n : ℕ) → after h .writer .count ≡ n → FetchesBook h key x n
   fetches n count =
-      let all : length (unitsAdded h) ≡ n = left-counted kind (readable .wellFormed) h l ∙ count in
-      record { count = all; unit = unit-of; none = λ k past. none-of k (omega arith); part = part-of }
+      let all : length (unitsAdded h) ≡ n = left-counted (kindOf q) (formed q) h l ∙ count in
+      record { count = all; unit = unit-of; none = λ k past. none-of k (omega arith); part = part-of; placed = placed-of; clear = clear-of }
 
 -- check counts the units of every such list
-counted : (kind : Kind) → Readable kind → {key x : List ℕ} → Bytes key → Bytes x → (n t : ℕ) → checkAnswer kind key x ≡ Accepted n t
-    → (h : History kind) → LeavesBook h key x → after h .writer .count ≡ n
-counted kind readable {key} {x} keyBytes bytes n t e h l =
+counted : {key x : List ℕ} → Bytes key → Bytes x → (n t : ℕ) → checkAnswer key x ≡ Accepted n t
+    → (q : BookKind) (h : History (kindOf q)) → LeavesBook h key x → after h .writer .count ≡ n
+counted {key} {x} keyBytes bytes n t e q h l =
     let count = after h .writer .count in
     let total = after h .writer .total in
-    let own = demand3-readable kind readable .exact key x keyBytes bytes count total .1 (h, l, refl, refl) in
+    let own = demand3 .exact key x keyBytes bytes count total .1 (q, h, l, refl, refl) in
     let same : Accepted count total ≡ Accepted n t = sym own ∙ e in
     cc
 
-pub fetch-law : (kind : Kind) → Readable kind → FetchLaw kind
-fetch-law kind readable =
-    record { accepted = λ key x keyBytes bytes n t e h l. fetches kind readable h l n (counted kind readable keyBytes bytes n t e h l) }
-
--- for the kind in the contracts of check, fetch and the ciphertext call
-pub fetch-law-written : FetchLaw writerKind
-fetch-law-written = fetch-law writerKind kind10-readable
+pub fetch-law : FetchLaw
+fetch-law = record { accepted = λ key x keyBytes bytes n t e q h l. fetches q h l n (counted keyBytes bytes n t e q h l) }

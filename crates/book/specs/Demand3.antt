@@ -1,6 +1,7 @@
--- Demand 3, as a statement over the definitions in the contracts of `start`, `add`, `close` and `check`; proofs/Demand3 proves it
--- for every kind of book that can be read, and so for `writerKind`, of which the contracts speak. A comment for each clause has the
--- demand's words. Lists of calls, and what they leave, are those of crates/writer/specs/History.
+-- Demand 3, as a statement over the definitions in the contracts of `start`, `add`, `close` and `check`; proofs/Demand3 proves it.
+-- It speaks of every kind of book that can be read: the lists of a kind are those of the writer of that kind. The contracts of start, add and
+-- close speak of `writerKind`, that of check of every kind. A comment for each clause has the demand's words. Lists of calls, and what they
+-- leave, are those of crates/writer/specs/History.
 use mathlib.Core.Path.{_≡_}
 use mathlib.Core.Bool.{true}
 use mathlib.Core.Logic.{_↔_}
@@ -9,9 +10,11 @@ use Prim.Native.Nat.{ℕ}
 use lib.ListN.{length, take}
 use Rattle.bits.specs.Bytes.{Bytes}
 use Rattle.fields.specs.Each.{Each}
-use Rattle.fields.specs.Kind.{Kind}
+use Rattle.fields.specs.Kind.{Kind, writerKind}
 use Rattle.format.specs.Sealings.{cipherCalls, callTotal}
 use Rattle.fields.specs.Unit.{BookUnit}
+use Rattle.kinds.specs.declared.Kind.{Kind as BookKind}
+use Rattle.kinds.specs.Kind.{kindOf, newest}
 use Rattle.writer.specs.History.{Call, Callable, State, Start, started, run, units, hasClose, sealings}
 use Rattle.writer.specs.Left.{WriterHalf}
 use Rattle.reader.specs.Check.{checkAnswer}
@@ -45,20 +48,26 @@ pub record LeavesBook {kind : Kind} (h : History kind) (key x : List ℕ) : Type
   pub closed : hasClose kind (h .calls) (started (h .start)) ≡ true
   pub string : leaves h ≡ x
 
-pub record Demand3 (kind : Kind) : Type 0 where
+pub record Demand3 : Type 0 where
   -- (1) "After every such list, no two cipher calls of all its accepted calls use the same tweak."
-  pub apart : (h : History kind) → List·Nodup (map (λ c. c .tweak) (cipherCalls (sealings kind (h .calls) (started (h .start)))))
+  pub apart : (k : BookKind) (h : History (kindOf k))
+      → List·Nodup (map (λ c. c .tweak) (cipherCalls (sealings (kindOf k) (h .calls) (started (h .start)))))
   -- (2) "The writer's call total is then the sum of ⌈a/16⌉ + ⌈m/16⌉ + 1 over their sealings, with header length a and text length m":
   -- and that is the length of their call lists
-  pub total : (h : History kind)
-      → (after h .writer .total ≡ callTotal (sealings kind (h .calls) (started (h .start))))
-      × (after h .writer .total ≡ length (cipherCalls (sealings kind (h .calls) (started (h .start)))))
+  pub total : (k : BookKind) (h : History (kindOf k))
+      → (after h .writer .total ≡ callTotal (sealings (kindOf k) (h .calls) (started (h .start))))
+      × (after h .writer .total ≡ length (cipherCalls (sealings (kindOf k) (h .calls) (started (h .start)))))
   -- (3) "For every key and every byte string, checking accepts exactly when some such list under that key, with an accepted close, leaves that
-  -- string"; "checking, where it accepts, returns the unit count and call total of the writer that leaves the string"
+  -- string": a list of some kind that can be read; "checking, where it accepts, returns the unit count and call total of the writer that leaves
+  -- the string"
   pub exact : (key x : List ℕ) → Bytes key → Bytes x → (n t : ℕ)
-      → (checkAnswer kind key x ≡ Accepted n t) ↔ ((h : History kind) × LeavesBook h key x × (after h .writer .count ≡ n) × (after h .writer .total ≡ t))
-  -- (4) "All such lists under that key that leave the same string have the same units in the same order.": closed or not
-  pub one : (h₁ h₂ : History kind) → h₁ .start .key ≡ h₂ .start .key → leaves h₁ ≡ leaves h₂ → unitsAdded h₁ ≡ unitsAdded h₂
+      → (checkAnswer key x ≡ Accepted n t)
+      ↔ ((k : BookKind) × (h : History (kindOf k)) × LeavesBook h key x × (after h .writer .count ≡ n) × (after h .writer .total ≡ t))
+  -- (4) "All such lists under that key that leave the same string have the same units in the same order.": kind by kind, closed or not
+  pub one : (k : BookKind) (h₁ h₂ : History (kindOf k))
+      → h₁ .start .key ≡ h₂ .start .key → leaves h₁ ≡ leaves h₂ → unitsAdded h₁ ≡ unitsAdded h₂
   -- Besides the demand's words: what stands before the writer's place and behind it, that the sealings are those of the bytes there, and that
   -- every list of allowed units can be written. Without it a writer and a checker that refuse all would do.
-  pub written : WriterHalf kind
+  pub written : (k : BookKind) → WriterHalf (kindOf k)
+  -- and that the kind in the contracts of start, add and close is one of these
+  pub newest : kindOf newest ≡ writerKind

@@ -1,5 +1,5 @@
--- Fetching from a book that a writer has left, as a statement over the lists of calls of demand 3; proofs/Fetched proves it for every kind of
--- book that can be read. By demand 3 (3) these are exactly the strings that check accepts, and by (4) such a string has one list of units.
+-- Fetching from a book that a writer has left, as a statement over the lists of calls of demand 3; proofs/Fetched proves it. By demand 3 (3)
+-- these are exactly the strings that check accepts, and by (4) such a string has one list of units.
 use mathlib.Core.Path.{_≡_}
 use mathlib.Core.List.{List, _∷_, _++_}
 use Prim.Native.Nat.{ℕ, _≤_}
@@ -9,21 +9,29 @@ use Rattle.fields.specs.Kind.{Kind}
 use Rattle.fields.specs.Unit.{BookUnit}
 use Rattle.reader.specs.Check.{checkAnswer}
 use Rattle.reader.specs.declared.check.CheckAnswer.the-variants.{Accepted}
-use Rattle.fetch.specs.Exact.{HandsOut, NoUnit, PartOf}
+use Rattle.kinds.specs.declared.Kind.{Kind as BookKind}
+use Rattle.kinds.specs.Kind.{kindOf}
+use Rattle.fetch.specs.Exact.{HandsOut, NoUnit, PartOf, StandsAt, SaysClear}
 use Rattle.book.specs.Demand3.{History, unitsAdded, LeavesBook}
 
 -- what fetch gives of a string x that a list of calls leaves under a key, of which n units are counted
 pub record FetchesBook {kind : Kind} (list : History kind) (key x : List ℕ) (n : ℕ) : Type 0 where
   pub count : length (unitsAdded list) ≡ n
   -- fetch of each k below the count gives exactly unit k of the list
-  pub unit : (before : List BookUnit) (u : BookUnit) (after : List BookUnit) → unitsAdded list ≡ before ++ u ∷ after → HandsOut kind key x (length before) u
+  pub unit : (before : List BookUnit) (u : BookUnit) (after : List BookUnit) → unitsAdded list ≡ before ++ u ∷ after → HandsOut key x (length before) u
   -- and of each other k gives 16
-  pub none : (k : ℕ) → n ≤ k → NoUnit kind key x k
+  pub none : (k : ℕ) → n ≤ k → NoUnit key x k
   -- the ciphertext part is that unit's field 11
   pub part : (before : List BookUnit) (u : BookUnit) (after : List BookUnit) → unitsAdded list ≡ before ++ u ∷ after
       → PartOf kind (list .start .suite) key (list .start .number) before u x
+  -- at its place it is handed out too, with the place of the next one
+  pub placed : (before : List BookUnit) (u : BookUnit) (after : List BookUnit) → unitsAdded list ≡ before ++ u ∷ after
+      → StandsAt kind (list .start .suite) key (list .start .number) before u x
+  -- what is said in the clear is that unit's
+  pub clear : (before : List BookUnit) (u : BookUnit) (after : List BookUnit) → unitsAdded list ≡ before ++ u ∷ after
+      → SaysClear kind (list .start .suite) key (list .start .number) before u x
 
 -- in a book that check accepts, and of every list that leaves it; there is one by demand 3 (3)
-pub record FetchLaw (kind : Kind) : Type 0 where
-  pub accepted : (key x : List ℕ) → Bytes key → Bytes x → (n t : ℕ) → checkAnswer kind key x ≡ Accepted n t
-      → (list : History kind) → LeavesBook list key x → FetchesBook list key x n
+pub record FetchLaw : Type 0 where
+  pub accepted : (key x : List ℕ) → Bytes key → Bytes x → (n t : ℕ) → checkAnswer key x ≡ Accepted n t
+      → (k : BookKind) (list : History (kindOf k)) → LeavesBook list key x → FetchesBook list key x n

@@ -1,16 +1,17 @@
 // The functions for C that read a book, as include/sealed_book.h declares them.
 use fetch::unit::FetchAnswer;
+use fetch::unit::PlacedAnswer;
 use reader::check::CheckAnswer;
 ghost use mathlib.Core.Path.{_≡_};
-ghost use Rattle.fields.specs.Kind.{writerKind};
 ghost use Rattle.reader.specs.Check.{checkAnswer};
 ghost use Rattle.walk.specs.Ciphertext.{ciphertextPlace};
 ghost use Rattle.fetch.specs.Fetch.{fetchAnswer, fetchBuffer, placedAnswer, placedBuffer};
-ghost use Rattle.c_reader.specs.Read.{checkReturned, checkUnits, checkCalls, fetchReturned, fetchSource, fetchTarget};
+ghost use Rattle.c_reader.specs.Read.{CheckLeaves, FetchLeaves, PlacedLeaves};
 
 #[no_mangle]
 pub extern "C" fn sb_check(key: &[u8], book: &[u8], units: &mut u64, calls: &mut u64) -> u32
-    ensures { λ r. ⌜ (r ≡ checkReturned (checkAnswer writerKind (now (key .entry)) (now (book .entry)))) × (now (units .exit) ≡ checkUnits (checkAnswer writerKind (now (key .entry)) (now (book .entry))) (now (units .entry))) × (now (calls .exit) ≡ checkCalls (checkAnswer writerKind (now (key .entry)) (now (book .entry))) (now (calls .entry))) ⌝ }
+    ensures { λ r. ⌜ CheckLeaves (checkAnswer (now (key .entry)) (now (book .entry)))
+        (now (units .entry)) (now (calls .entry)) r (now (units .exit)) (now (calls .exit)) ⌝ }
 {
     let answer = reader::check::check(key, book);
     match answer {
@@ -32,7 +33,9 @@ pub extern "C" fn sb_fetch(
     source: &mut u64,
     target: &mut u64,
 ) -> u32
-    ensures { λ r. ⌜ (r ≡ fetchReturned (fetchAnswer writerKind (now (key .entry)) (now (book .entry)) k (now (out .entry)))) × (now (out .exit) ≡ fetchBuffer writerKind (now (key .entry)) (now (book .entry)) k (now (out .entry))) × (now (source .exit) ≡ fetchSource (fetchAnswer writerKind (now (key .entry)) (now (book .entry)) k (now (out .entry))) (now (source .entry))) × (now (target .exit) ≡ fetchTarget (fetchAnswer writerKind (now (key .entry)) (now (book .entry)) k (now (out .entry))) (now (target .entry))) ⌝ }
+    ensures { λ r. ⌜ FetchLeaves (fetchAnswer (now (key .entry)) (now (book .entry)) k (now (out .entry)))
+        (now (source .entry)) (now (target .entry)) r (now (source .exit)) (now (target .exit))
+        × (now (out .exit) ≡ fetchBuffer (now (key .entry)) (now (book .entry)) k (now (out .entry))) ⌝ }
 {
     let answer = fetch::unit::fetch(key, book, k, out);
     match answer {
@@ -54,15 +57,20 @@ pub extern "C" fn sb_fetch_at(
     out: &mut [u8],
     source: &mut u64,
     target: &mut u64,
+    next: &mut u64,
 ) -> u32
-    ensures { λ r. ⌜ (r ≡ fetchReturned (placedAnswer writerKind (now (key .entry)) (now (book .entry)) number at (now (out .entry)))) × (now (out .exit) ≡ placedBuffer writerKind (now (key .entry)) (now (book .entry)) number at (now (out .entry))) × (now (source .exit) ≡ fetchSource (placedAnswer writerKind (now (key .entry)) (now (book .entry)) number at (now (out .entry))) (now (source .entry))) × (now (target .exit) ≡ fetchTarget (placedAnswer writerKind (now (key .entry)) (now (book .entry)) number at (now (out .entry))) (now (target .entry))) ⌝ }
+    ensures { λ r. ⌜ PlacedLeaves (placedAnswer (now (key .entry)) (now (book .entry)) number at (now (out .entry)))
+        (now (source .entry)) (now (target .entry)) (now (next .entry))
+        r (now (source .exit)) (now (target .exit)) (now (next .exit))
+        × (now (out .exit) ≡ placedBuffer (now (key .entry)) (now (book .entry)) number at (now (out .entry))) ⌝ }
 {
     let answer = fetch::unit::fetch_placed(key, book, number, at, out);
     match answer {
-        FetchAnswer::Refused(why) => why.number(),
-        FetchAnswer::Fetched(s, t) => {
+        PlacedAnswer::Refused(why) => why.number(),
+        PlacedAnswer::Fetched(s, t, place) => {
             *source = s as u64;
             *target = t as u64;
+            *next = place as u64;
             0
         }
     }
@@ -70,7 +78,8 @@ pub extern "C" fn sb_fetch_at(
 
 #[no_mangle]
 pub extern "C" fn sb_ciphertext(book: &[u8], k: u64, at: &mut u64, len: &mut u64)
-    ensures { λ r. ⌜ (now (at .exit) ≡ ciphertextPlace writerKind k (now (book .entry)) .at) × (now (len .exit) ≡ ciphertextPlace writerKind k (now (book .entry)) .len) ⌝ }
+    ensures { λ r. ⌜ (now (at .exit) ≡ ciphertextPlace k (now (book .entry)) .at)
+        × (now (len .exit) ≡ ciphertextPlace k (now (book .entry)) .len) ⌝ }
 {
     let part = walk::ciphertext::place(book, k);
     *at = part.at as u64;

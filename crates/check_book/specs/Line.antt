@@ -6,7 +6,6 @@ use mathlib.Core.List.{List}
 use Prim.Native.Nat.{ℕ, _+_}
 use lib.Dec.{leb}
 use lib.ListN.{length, take, drop}
-use Rattle.fields.specs.Kind.{writerKind}
 use Rattle.reader.specs.Check.{checkAnswer}
 use Rattle.reader.specs.declared.check.CheckAnswer.{CheckAnswer}
 use Rattle.reader.specs.declared.check.CheckAnswer.the-variants.{Accepted, Refused}
@@ -22,4 +21,4 @@ checkedLine (Refused why) = LineRefused why
 
 -- of the bytes that were read: the key is the first 16 of them, or as many as there are
 unfoldable pub lineOf : List ℕ → Line
-lineOf input = cond (leb (length input) (16 + longestBook)) (checkedLine (checkAnswer writerKind (take 16 input) (drop 16 input))) TooLong
+lineOf input = cond (leb (length input) (16 + longestBook)) (checkedLine (checkAnswer (take 16 input) (drop 16 input))) TooLong

@@ -16,7 +16,7 @@ use Rattle.fields.proofs.Texts.{length-unitText}
 use Rattle.format.specs.Layout.{sealedFields, unitBytes, closeBytes, unitsBytes, bookBytes}
 use Rattle.format.specs.Sealings.{openingFields, unitHeader, unitSealing, sealedBytes}
 use Rattle.format.proofs.Lengths.{length-openingFields, length-unitHeader, length-unitSealed, unitsBytes-append}
-use Rattle.parser.specs.Frame.{headerBytes}
+use Rattle.kinds.specs.Lengths.{ciphertextAt}
 
 -- a field whose value has m bytes
 field-at : (tag m : ℕ) (v : List ℕ) → length v ≡ m → field tag v ≡ fieldHead tag m ++ v
@@ -54,7 +54,7 @@ module _ (kind : Kind) (suite : Suite) (key : List ℕ) (number : ℕ) (before :
   abbrev pub front : List ℕ
   front = openingFields suite number ++ (units ++ (unitHeader kind (length before) (detailsOf kind u) ++ fieldHead 0x11 m))
 
-  pub length-front : Allowed kind u → length front ≡ 16 + length units + (3 + headerBytes kind + 3)
+  pub length-front : Allowed kind (length before) u → length front ≡ 16 + length units + ciphertextAt kind
   length-front a =
       simp length-append
       (omega (

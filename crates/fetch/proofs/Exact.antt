@@ -2,6 +2,7 @@
 use mathlib.Core.Path.{_≡_, sym, ap, _∙_}
 use mathlib.Core.List.{List, [], _∷_, _++_}
 use Prim.Native.Nat.{ℕ, _+_, _^_, _≤_, _<_, min}
+use native.Mathlib.Nat.{zero-add}
 use native.Mathlib.Omega.{arith}
 use lib.ListN.{length, take, drop, length-append}
 use lib.Seq.{take-at, drop-at}
@@ -10,27 +11,41 @@ use Rattle.suites.specs.declared.suite.Suite.{Suite}
 use Rattle.fields.specs.Field.{field}
 use Rattle.fields.specs.Kind.{Kind}
 use Rattle.fields.specs.Unit.{BookUnit, Allowed, unitText}
-use Rattle.fields.proofs.Each.{each-left, each-at}
-use Rattle.fields.proofs.Texts.{length-unitText}
+use Rattle.fields.proofs.Each.{eachFrom-left, eachFrom-at}
 use Rattle.format.specs.Layout.{unitBytes, closeBytes, unitsBytes, bookBytes, Bookable}
 use Rattle.format.specs.Sealings.{openingFields, unitSealing, sealedBytes}
 use Rattle.format.proofs.Lengths.{length-openingFields, range-told, unitsBytes-snoc}
-use Rattle.parser.specs.declared.frame.Frame.the-variants.{Close}
-use Rattle.parser.specs.Frame.{mostUnits, headerBytes, frameAt, Readable}
+use Rattle.suites.specs.declared.refusal.Answer.the-variants.{Done, Refused}
+use Rattle.kinds.specs.declared.Kind.{Kind as BookKind}
+use Rattle.kinds.specs.Kind.{kindOf, bookKind}
+use Rattle.kinds.specs.Lengths.{ciphertextAt, frameLength}
+use Rattle.kinds.proofs.Formed.{formed}
+use Rattle.parser.specs.declared.frame.Frame.the-variants.{Unit, Close}
+use Rattle.parser.specs.Frame.{mostUnits, frameAt}
+use Rattle.parser.proofs.Frames.{readable}
+use Rattle.parser.proofs.Openings.{opening-here}
+use Rattle.reader.proofs.BookKinds.{own-kind, unit-kind}
+use Rattle.walk.specs.declared.clear.Clear.{Clear}
 use Rattle.walk.specs.declared.ciphertext.Part.{Part}
-use Rattle.walk.specs.Walk.{frameLength, walkTo}
-use Rattle.walk.specs.Ciphertext.{partAt, ciphertextPlace, ciphertextPart}
-use Rattle.fetch.specs.Fetch.{placedAnswer, placedBuffer}
-use Rattle.fetch.specs.Exact.{HandsOut, NoUnit, PartOf, StandsAt, FetchesUnits}
+use Rattle.walk.specs.Walk.{walkTo}
+use Rattle.walk.specs.Ciphertext.{ciphertextPlace, ciphertextPart}
+use Rattle.walk.specs.Clear.{codeOf, noClear, clearOf, clearUnless, placedClearOf, placedClear, unitClearOf, unitClear}
+use Rattle.walk.proofs.Places.{clear-part}
+use Rattle.fetch.specs.Fetch.{fetchOutcome, fetchText, nextOf, fetchAnswerOf, fetchAnswer, fetchBufferOf, fetchBuffer, placedAnswerOf, placedAnswer, placedBufferOf, placedBuffer}
+use Rattle.fetch.specs.Hands.{withNext}
+use Rattle.fetch.specs.Exact.{HandsOut, NoUnit, PartOf, placeBehind, StandsAt, unitSays, SaysClear, FetchesUnits}
 use Rattle.fetch.proofs.Cut.{behind, book-cut, front, length-front, length-ciphertext, front-is}
-use Rattle.fetch.proofs.Written.{unit-frame, unit-outcome, unit-text, close-frame, close-outcome}
+use Rattle.fetch.proofs.Written.{unit-frame, unit-outcome, unit-text, unit-codes, close-frame, close-outcome}
 use Rattle.fetch.proofs.Reached.{endPlace, unit-length, walk-ends, walk-closes}
-use Rattle.fetch.proofs.Arrived.{outcome-there, text-there, part-there, refuses, hands-out}
+use Rattle.fetch.proofs.Arrived.{outcome-there, text-there, there-whole, clear-there, refuses, hands-out}
 use Rattle.fetch.proofs.Handed.{fetch-placed}
 
-module _ (kind : Kind) (readable : Readable kind) (suite : Suite) (key : List ℕ) (number : ℕ) where
+module _ (q : BookKind) (suite : Suite) (key : List ℕ) (number : ℕ) where
+  abbrev kind : Kind
+  kind = kindOf q
+
   -- a unit of a book
-  module _ (before : List BookUnit) (u : BookUnit) (after : List BookUnit) (b : Bookable kind suite key number (before ++ u ∷ after)) where
+  module _ (before : List BookUnit) (u : BookUnit) (after : List BookUnit) (b : Bookable (kindOf q) suite key number (before ++ u ∷ after)) where
     abbrev n : ℕ
     n = length before
 
@@ -47,41 +62,100 @@ module _ (kind : Kind) (readable : Readable kind) (suite : Suite) (key : List �
     abbrev z : List ℕ
     z = unitBytes kind suite key number n u ++ rest
 
+    -- the book, cut before the unit
+    abbrev x : List ℕ
+    x = openingFields suite number ++ (units ++ z)
+
+    own : bookKind x ≡ q
+    own = sym (ap bookKind (book-cut kind suite key number before u after)) ∙ unit-kind q suite key number before u after
+
     few : n < mostUnits
-    few = omega (arith, length-append before (u ∷ after), readable .limit, b .few)
+    few = omega (arith, length-append before (u ∷ after), readable q .limit, b .few)
 
-    fits : n < 256 ^ kind .numberBytes
-    fits = omega (arith, length-append before (u ∷ after), readable .limit, b .few)
+    fits : n < 256 ^ kindOf q .numberBytes
+    fits = omega (arith, length-append before (u ∷ after), readable q .limit, b .few)
 
-    allowed : Allowed kind u
-    allowed = each-at before u after (b .units)
+    allowed : Allowed (kindOf q) n u
+    allowed = rw zero-add at (eachFrom-at before u after (b .units))
 
     ends : walkTo kind n (units ++ z) ≡ endPlace kind suite key number before
     ends =
-        walk-ends kind suite key number (b .keyLong) (b .keyBytes) (readable .wellFormed) before z (each-left before (u ∷ after) (b .units))
+        walk-ends kind suite key number (b .numberFits) (b .keyLong) (b .keyBytes) (formed q) before z (eachFrom-left before (u ∷ after) (b .units))
         (omega (arith, few)) (omega (arith, fits))
 
-    unit-fetched : HandsOut kind key (bookBytes kind suite key number (before ++ u ∷ after)) n u
+    unit-fetched : HandsOut key (bookBytes (kindOf q) suite key number (before ++ u ∷ after)) n u
     unit-fetched =
         rw (book-cut kind suite key number before u after)
-        (hands-out kind key (openingFields suite number ++ (units ++ z)) n u
+        (hands-out key x n u
         (omega (arith, range-told (length (u .source)) (length (u .target)) (allowed .range)))
-        (λ o. outcome-there kind suite key number (b .numberFits) (b .listedSuite) before z n ends (b .keyLong) o
-        ∙ unit-outcome kind suite key number (b .keyLong) (b .keyBytes) n (readable .wellFormed) fits few u allowed rest o)
-        (text-there kind suite key number (b .numberFits) (b .listedSuite) before z n ends
-        ∙ unit-text kind suite key number (b .keyLong) (b .keyBytes) n (readable .wellFormed) fits few u allowed rest))
+        (λ r. ap (λ (p : BookKind). fetchOutcome (kindOf p) key x n r) own
+        ∙ outcome-there kind suite key number (b .numberFits) (b .listedSuite) before z n ends (b .keyLong) r
+        ∙ unit-outcome kind suite key number (b .numberFits) (b .keyLong) (b .keyBytes) n (formed q) fits few u allowed rest r)
+        (ap (λ (p : BookKind). fetchText (kindOf p) key x n) own
+        ∙ text-there kind suite key number (b .numberFits) (b .listedSuite) before z n ends
+        ∙ unit-text kind suite key number (b .numberFits) (b .keyLong) (b .keyBytes) n (formed q) fits few u allowed rest))
+
+    -- what stands in the clear, and where the next unit stands
+    framed : frameAt kind n z ≡ Unit m
+    framed = unit-frame kind suite key number (b .numberFits) (b .keyLong) (b .keyBytes) n (formed q) fits few u allowed rest
+
+    next-is : 16 + length units + frameLength kind m ≡ placeBehind (kindOf q) suite key number (before ++ u ∷ [])
+    next-is =
+        let c = unitBytes kind suite key number (0 + n) u in
+        omega (
+          arith,
+          ap length (unitsBytes-snoc kind suite key number 0 before u),
+          length-append units c,
+          unit-length kind suite key number (0 + n) u (rw zero-add allowed),
+        )
+
+    abbrev said : Clear
+    said =
+        record {
+          answer = Done;
+          at = 16 + length units;
+          from = codeOf (u .from);
+          to = codeOf (u .to);
+          ciphertext = record { at = 16 + length units + ciphertextAt kind; len = m };
+          next = placeBehind (kindOf q) suite key number (before ++ u ∷ []);
+        }
+
+    clear-is : clearOf kind (16 + length units) z (frameAt kind n z) ≡ said
+    clear-is =
+        let codes = unit-codes kind suite key number (b .numberFits) (b .keyLong) (b .keyBytes) n (formed q) fits few u allowed rest in
+        ap (clearOf kind (16 + length units) z) framed
+        ∙ (λ i. record {
+          answer = Done;
+          at = 16 + length units;
+          from = codeOf (codes .0 i);
+          to = codeOf (codes .1 i);
+          ciphertext = record { at = 16 + length units + ciphertextAt kind; len = m };
+          next = next-is i;
+        })
+
+    there : drop (16 + length units) x ≡ z
+    there = there-whole kind suite key number (b .numberFits) (b .listedSuite) before z n ends
+
+    walked-clear : unitClear n x ≡ said
+    unfolding unitClear
+    walked-clear =
+        ap (λ (p : BookKind). unitClearOf (kindOf p) n x) own
+        ∙ clear-there kind suite key number (b .numberFits) (b .listedSuite) before z n ends
+        ∙ clear-is
+
+    placed-clear : placedClear n (16 + length units) x ≡ said
+    unfolding placedClear placedClearOf
+    placed-clear =
+        ap (λ (p : BookKind). placedClearOf (kindOf p) n (16 + length units) x) own
+        ∙ (λ i. clearUnless (opening-here suite number (units ++ z) (b .numberFits) (b .listedSuite) .0 i)
+        (clearOf kind (16 + length units) (there i) (frameAt kind n (there i))))
+        ∙ clear-is
 
     -- where its ciphertext stands
-    abbrev part : Part
-    part = record { at = 16 + length units + (3 + headerBytes kind + 3); len = m }
+    part-is : ciphertextPlace n x ≡ said .ciphertext
+    part-is = sym (clear-part n x) ∙ ap (λ (c : Clear). c .ciphertext) walked-clear
 
-    part-is : ciphertextPlace kind n (openingFields suite number ++ (units ++ z)) ≡ part
-    part-is =
-        part-there kind suite key number (b .numberFits) (b .listedSuite) before z n ends
-        ∙ ap (partAt kind (16 + length units))
-        (unit-frame kind suite key number (b .keyLong) (b .keyBytes) n (readable .wellFormed) fits few u allowed rest)
-
-    unit-part : PartOf kind suite key number before u (bookBytes kind suite key number (before ++ u ∷ after))
+    unit-part : PartOf (kindOf q) suite key number before u (bookBytes (kindOf q) suite key number (before ++ u ∷ after))
     unfolding ciphertextPart
     unit-part =
         let head = front kind suite key number before u in
@@ -89,19 +163,30 @@ module _ (kind : Kind) (readable : Readable kind) (suite : Suite) (key : List �
         let sealed = sealedBytes suite key (unitSealing kind suite number n u) in
         let tail = field 0x12 (drop m sealed) ++ rest in
         let whole = front-is kind suite key number before u rest in
+        let at = said .ciphertext .at in
         rw (book-cut kind suite key number before u after)
         (record {
           value =
               (λ i. take (part-is i .len) (drop (part-is i .at) (whole i)))
-              ∙ ap (take m) (drop-at head (take m sealed ++ tail) (part .at) long)
+              ∙ ap (take m) (drop-at head (take m sealed ++ tail) at long)
               ∙ take-at (take m sealed) tail m (length-ciphertext kind suite key number before u);
-          stands = (λ i. take (part-is i .at) (whole i)) ∙ take-at head (take m sealed ++ tail) (part .at) long;
+          stands = (λ i. take (part-is i .at) (whole i)) ∙ take-at head (take m sealed ++ tail) at long;
         })
 
-    -- fetch by its place
-    abbrev x : List ℕ
-    x = openingFields suite number ++ (units ++ z)
+    says : said ≡ unitSays (kindOf q) suite key number before u x
+    says = λ i. record {
+      answer = Done;
+      at = 16 + length units;
+      from = codeOf (u .from);
+      to = codeOf (u .to);
+      ciphertext = sym part-is i;
+      next = placeBehind (kindOf q) suite key number (before ++ u ∷ []);
+    }
 
+    unit-clear : SaysClear (kindOf q) suite key number before u (bookBytes (kindOf q) suite key number (before ++ u ∷ after))
+    unit-clear = rw (book-cut kind suite key number before u after) (record { walked = walked-clear ∙ says; placed = placed-clear ∙ says })
+
+    -- fetch by its place
     opened : min (length x) 16 ≡ 16
     opened = omega (arith, length-append (openingFields suite number) (units ++ z), length-openingFields suite number)
 
@@ -111,64 +196,84 @@ module _ (kind : Kind) (readable : Readable kind) (suite : Suite) (key : List �
         (ap (λ (a : ℕ). drop a x) opened ∙ drop-at (openingFields suite number) (units ++ z) 16 (length-openingFields suite number))
         ∙ ends
 
-    next-stands : length (unitsBytes kind suite key number 0 (before ++ u ∷ []))
-        ≡ length units + frameLength kind (2 + length (u .source) + length (u .target))
-    next-stands =
-        let b = unitBytes kind suite key number (0 + n) u in
-        ap length (unitsBytes-snoc kind suite key number 0 before u)
-        ∙ omega (
-          arith,
-          length-append units b,
-          unit-length kind suite key number (0 + n) u allowed,
-          length-unitText (u .source) (u .target),
-        )
+    -- the next unit, from where the walk ends
+    next-there : let p = walkTo kind n (drop (min (length x) 16) x) in let at = min (length x) 16 + p .at in
+        nextOf kind at (frameAt kind (p .number) (drop at x)) ≡ placeBehind (kindOf q) suite key number (before ++ u ∷ [])
+    next-there =
+        (λ i. nextOf kind (opened i + reached i .at) (frameAt kind (reached i .number) (drop (opened i + reached i .at) x)))
+        ∙ ap (λ (y : List ℕ). nextOf kind (16 + length units) (frameAt kind n y)) there
+        ∙ ap (nextOf kind (16 + length units)) framed
+        ∙ next-is
 
-    unit-placed : StandsAt kind suite key number before u (bookBytes kind suite key number (before ++ u ∷ after))
+    unit-placed : StandsAt (kindOf q) suite key number before u (bookBytes (kindOf q) suite key number (before ++ u ∷ after))
+    unfolding placedAnswer placedBuffer fetchAnswer fetchBuffer
     unit-placed =
         rw (book-cut kind suite key number before u after)
         (record {
           answer = λ out.
-              sym (λ i. placedAnswer kind key x (reached i .number) (opened i + reached i .at) out) ∙ fetch-placed kind key x n out .0;
+              ap (λ (p : BookKind). placedAnswerOf (kindOf p) key x n (16 + length units) out) own
+              ∙ sym (λ i. placedAnswerOf kind key x (reached i .number) (opened i + reached i .at) out)
+              ∙ fetch-placed kind key x n out .0
+              ∙ (λ i. withNext (fetchAnswerOf (kindOf (sym own i)) key x n out) (next-there i));
           output = λ out.
-              sym (λ i. placedBuffer kind key x (reached i .number) (opened i + reached i .at) out) ∙ fetch-placed kind key x n out .1;
-          next = next-stands;
+              ap (λ (p : BookKind). placedBufferOf (kindOf p) key x n (16 + length units) out) own
+              ∙ sym (λ i. placedBufferOf kind key x (reached i .number) (opened i + reached i .at) out)
+              ∙ fetch-placed kind key x n out .1
+              ∙ ap (λ (p : BookKind). fetchBufferOf (kindOf p) key x n out) (sym own);
         })
 
   -- past the units of a book
-  module _ (us : List BookUnit) (b : Bookable kind suite key number us) (k : ℕ) (past : length us ≤ k) where
+  module _ (us : List BookUnit) (b : Bookable (kindOf q) suite key number us) (k : ℕ) (past : length us ≤ k) where
     abbrev c : List ℕ
     c = closeBytes kind suite key number (length us)
 
-    close-fits : length us < 256 ^ kind .numberBytes
-    close-fits = omega (arith, readable .wellFormed .numbersFit, b .few)
+    close-fits : length us < 256 ^ kindOf q .numberBytes
+    close-fits = omega (arith, formed q .numbersFit, b .few)
 
     closed : frameAt kind (length us) c ≡ Close
-    closed = close-frame kind suite key number (b .keyLong) (b .keyBytes) (length us) (readable .wellFormed) close-fits
+    closed = close-frame kind suite key number (b .numberFits) (b .keyLong) (b .keyBytes) (length us) (formed q) close-fits
 
     close-ends : walkTo kind k (unitsBytes kind suite key number 0 us ++ c) ≡ endPlace kind suite key number us
     close-ends =
-        walk-closes kind suite key number (b .keyLong) (b .keyBytes) (readable .wellFormed) us c (b .units)
-        (omega (arith, readable .limit, b .few)) (omega (arith, close-fits)) closed k past
+        walk-closes kind suite key number (b .numberFits) (b .keyLong) (b .keyBytes) (formed q) us c (b .units)
+        (omega (arith, readable q .limit, b .few)) (omega (arith, close-fits)) closed k past
 
-    none-fetched : NoUnit kind key (bookBytes kind suite key number us) k
+    none-outcome : (r : ℕ) → fetchOutcome (kindOf q) key (bookBytes (kindOf q) suite key number us) k r ≡ Refused NoSuchUnit
     unfolding bookBytes
-    none-fetched =
-        let units = unitsBytes kind suite key number 0 us in
-        record {
-          refused = λ out.
-              refuses kind key (openingFields suite number ++ (units ++ c)) k NoSuchUnit out
-              (outcome-there kind suite key number (b .numberFits) (b .listedSuite) us c k close-ends (b .keyLong) (length out)
-              ∙ close-outcome kind suite key number (b .keyLong) (b .keyBytes) (length us) (readable .wellFormed) close-fits (length out));
-          empty =
-              ap (λ (p : Part). p .len)
-              (part-there kind suite key number (b .numberFits) (b .listedSuite) us c k close-ends ∙ ap (partAt kind (16 + length units)) closed);
-        }
+    none-outcome r =
+        outcome-there kind suite key number (b .numberFits) (b .listedSuite) us c k close-ends (b .keyLong) r
+        ∙ close-outcome kind suite key number (b .numberFits) (b .keyLong) (b .keyBytes) (length us) (formed q) close-fits r
 
-pub fetches-units : (kind : Kind) → Readable kind → FetchesUnits kind
-fetches-units kind readable =
+    none-clear : unitClearOf (kindOf q) k (bookBytes (kindOf q) suite key number us) ≡ noClear NoSuchUnit
+    unfolding bookBytes
+    none-clear =
+        clear-there kind suite key number (b .numberFits) (b .listedSuite) us c k close-ends
+        ∙ ap (clearOf kind (16 + length (unitsBytes kind suite key number 0 us)) c) closed
+
+-- by the book's own kind
+module _ (q : BookKind) (suite : Suite) (key : List ℕ) (number : ℕ) (us : List BookUnit) (b : Bookable (kindOf q) suite key number us) (k : ℕ) (past : length us ≤ k) where
+  none-fetched : NoUnit key (bookBytes (kindOf q) suite key number us) k
+  unfolding unitClear
+  none-fetched =
+      let x : List ℕ = bookBytes (kindOf q) suite key number us in
+      let own = own-kind q suite key number us b in
+      let p : BookKind = bookKind x in
+      let clear : unitClearOf (kindOf p) k x ≡ noClear NoSuchUnit =
+      ap (unitClearOf (kindOf p) k) (sym (own .bytes)) ∙ none-clear p suite key number us (own .bookable) k past in
+      record {
+        refused = λ out.
+            refuses key x k NoSuchUnit out
+            (ap (λ (y : List ℕ). fetchOutcome (kindOf p) key y k (length out)) (sym (own .bytes)) ∙ none-outcome p suite key number us (own .bookable) k past (length out));
+        empty = sym (ap (λ (r : Part). r .len) (clear-part k x)) ∙ ap (λ (r : Clear). r .ciphertext .len) clear;
+        clear = clear;
+      }
+
+pub fetches-units : (q : BookKind) → FetchesUnits q
+fetches-units q =
     record {
-      unit = unit-fetched kind readable;
-      none = none-fetched kind readable;
-      part = unit-part kind readable;
-      placed = unit-placed kind readable;
+      unit = unit-fetched q;
+      none = none-fetched q;
+      part = unit-part q;
+      placed = unit-placed q;
+      clear = unit-clear q;
     }

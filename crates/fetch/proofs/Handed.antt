@@ -12,22 +12,21 @@ use Rattle.suites.specs.declared.refusal.Answer.{Answer}
 use Rattle.suites.specs.declared.refusal.Answer.the-variants.{Done, Refused}
 use Rattle.suites.specs.declared.refusal.Refusal.{Refusal}
 use Rattle.suites.specs.declared.refusal.Refusal.the-variants.{KeyLength, OutputTooShort, SegmentLength, NoSuchUnit}
-use Rattle.suites.specs.declared.suite.Suite.{Suite}
 use Rattle.limits.specs.Tests.{unless}
 use Rattle.limits.proofs.Passed.{unless-passed}
 use Rattle.sealing.specs.Seal.{written}
-use Rattle.fields.specs.Kind.{Kind, kind10}
+use Rattle.fields.specs.Kind.{Kind}
 use Rattle.fields.specs.Unit.{sourceLength, sourceOf, targetOf, textInRange}
 use Rattle.fields.proofs.Texts.{length-sourceOf, length-targetOf}
 use Rattle.parser.specs.declared.frame.Frame.{Frame}
 use Rattle.parser.specs.Frame.{frameAt}
-use Rattle.parser.specs.Opening.{openingNumber, openingSuite, openingTests, afterOpening}
+use Rattle.parser.specs.Opening.{openingBytes, openingTests, afterOpening, checkTests}
 use Rattle.seals.specs.Seal.{unitOpened}
-use Rattle.reader.specs.Check.{checkTests}
 use Rattle.parser.proofs.Openings.{opening-passed}
 use Rattle.walk.specs.declared.Place.{Place}
 use Rattle.fetch.specs.declared.unit.FetchAnswer.{FetchAnswer}
 use Rattle.fetch.specs.declared.unit.FetchAnswer.the-variants.{Fetched, Refused as FetchRefused}
+use Rattle.fetch.specs.declared.unit.PlacedAnswer.{PlacedAnswer}
 use Rattle.walk.specs.Walk.{walkTo}
 use Rattle.fetch.specs.Fetch.{
   andThen,
@@ -45,17 +44,16 @@ use Rattle.fetch.specs.Fetch.{
   fetchOutcome,
   fetchText,
   fetchReport,
-  fetchAnswer,
-  fetchBuffer,
+  fetchAnswerOf,
+  fetchBufferOf,
   placedOutcome,
   placedText,
-  placedAnswer,
-  placedBuffer,
+  nextOf,
+  placedReport,
+  placedAnswerOf,
+  placedBufferOf,
 }
-
--- an answer, and what is left of the output, as an outcome and a text give them
-abbrev pub Hands : Answer → List ℕ → List ℕ → FetchAnswer → List ℕ → Type 0
-Hands a t out r left = (r ≡ fetchReport a t) × (left ≡ written a (handedOut t) out)
+use Rattle.fetch.specs.Hands.{Hands, HandsNext, withNext, withoutNext}
 
 pub hands-same : {a b : Answer} {t u : List ℕ} (out : List ℕ) {r : FetchAnswer} {left : List ℕ} → a ≡ b → t ≡ u → Hands a t out r left → Hands b u out r left
 hands-same out p q h = (h .0 ∙ (λ i. fetchReport (p i) (q i)), h .1 ∙ (λ i. written (p i) (handedOut (q i)) out))
@@ -102,38 +100,57 @@ pub none-left : (a : Answer) (out : List ℕ) → out ≡ written (andThen a (Re
 none-left Done out = refl
 none-left (Refused why) out = refl
 
+-- with the place of the next unit
+pub next-same : {a b : Answer} {t u : List ℕ} {p q : ℕ} (out : List ℕ) {r : PlacedAnswer} {left : List ℕ} → a ≡ b → t ≡ u → p ≡ q
+    → HandsNext a t p out r left → HandsNext b u q out r left
+next-same out e f g h = (h .0 ∙ (λ i. placedReport (e i) (f i) (g i)), h .1 ∙ (λ i. written (e i) (handedOut (f i)) out))
+
+report-next : (a : Answer) (t : List ℕ) (next : ℕ) → withNext (fetchReport a t) next ≡ placedReport a t next
+report-next Done t next = refl
+report-next (Refused why) t next = refl
+
+pub hands-next : (a : Answer) (t out : List ℕ) {r : FetchAnswer} {left : List ℕ} {q : PlacedAnswer} (p next : ℕ) → Hands a t out r left
+    → q ≡ withNext r p → p ≡ next → HandsNext a t next out q left
+hands-next a t out p next h e f = (e ∙ (λ i. withNext (h .0 i) (f i)) ∙ report-next a t next, h .1)
+
 -- by the frame where the walk ends
-module _ (suite : Suite) (key : List ℕ) (number n : ℕ) (s out : List ℕ) {r : FetchAnswer} {left : List ℕ} where
-  pub frame-hands : (f : Frame) → frameAt kind10 n s ≡ f
-      → Hands
-      (frameOutcome f (λ (m : ℕ). unitOutcome kind10 suite key number n m s (length out)) (closeOutcome kind10 suite key number n s))
-      (frameText f (λ (m : ℕ). unitOpened kind10 suite key number n m s)) out r left
-      → Hands (outcomeAt kind10 suite key number n s (length out)) (textAt kind10 suite key number n s) out r left
+module _ (kind : Kind) (key o : List ℕ) (n at : ℕ) (s out : List ℕ) {r : PlacedAnswer} {left : List ℕ} where
+  pub frame-hands : (f : Frame) → frameAt kind n s ≡ f
+      → HandsNext
+      (frameOutcome f (λ (m : ℕ). unitOutcome kind key o n m s (length out)) (closeOutcome kind key o n s))
+      (frameText f (λ (m : ℕ). unitOpened kind key o n m s)) (nextOf kind at f) out r left
+      → HandsNext (outcomeAt kind key o n s (length out)) (textAt kind key o n s) (nextOf kind at (frameAt kind n s)) out r left
   unfolding outcomeAt textAt
   frame-hands f e h =
-      hands-same out
-      (ap (λ g. frameOutcome g (λ (m : ℕ). unitOutcome kind10 suite key number n m s (length out)) (closeOutcome kind10 suite key number n s)) (sym e))
-      (ap (λ g. frameText g (λ (m : ℕ). unitOpened kind10 suite key number n m s)) (sym e))
+      next-same out
+      (ap (λ g. frameOutcome g (λ (m : ℕ). unitOutcome kind key o n m s (length out)) (closeOutcome kind key o n s)) (sym e))
+      (ap (λ g. frameText g (λ (m : ℕ). unitOpened kind key o n m s)) (sym e))
+      (ap (nextOf kind at) (sym e))
       h
 
 -- by the tests before the frame
-module _ (key s : List ℕ) (n at : ℕ) (out : List ℕ) {r : FetchAnswer} {left : List ℕ} where
+module _ (kind : Kind) (key s : List ℕ) (n at : ℕ) (out : List ℕ) {r : PlacedAnswer} {left : List ℕ} where
   pub tests-hand : (a : Answer) → checkTests (length key) s ≡ a
-      → Hands (andThen a (outcomeAt kind10 (openingSuite s) key (openingNumber s) n (drop at s) (length out)))
-      (textAt kind10 (openingSuite s) key (openingNumber s) n (drop at s)) out r left
-      → (r ≡ placedAnswer kind10 key s n at out) × (left ≡ placedBuffer kind10 key s n at out)
-  unfolding placedAnswer placedBuffer placedOutcome placedText
+      → HandsNext (andThen a (outcomeAt kind key (openingBytes s) n (drop at s) (length out)))
+      (textAt kind key (openingBytes s) n (drop at s)) (nextOf kind at (frameAt kind n (drop at s))) out r left
+      → (r ≡ placedAnswerOf kind key s n at out) × (left ≡ placedBufferOf kind key s n at out)
+  unfolding placedAnswerOf placedBufferOf placedOutcome placedText
   tests-hand a e h =
-      hands-same out (ap (λ b. andThen b (outcomeAt kind10 (openingSuite s) key (openingNumber s) n (drop at s) (length out))) (sym e)) refl h
+      next-same out (ap (λ b. andThen b (outcomeAt kind key (openingBytes s) n (drop at s) (length out))) (sym e)) refl refl h
 
 -- what follows tests matters only where they are done
-report-after : (a x y : Answer) (t u : List ℕ) → (a ≡ Done → (x ≡ y) × (t ≡ u)) → fetchReport (andThen a x) t ≡ fetchReport (andThen a y) u
-report-after Done x y t u h = let e = h refl in λ i. fetchReport (e .0 i) (e .1 i)
-report-after (Refused why) x y t u h = refl
+report-after : (a x y : Answer) (t u : List ℕ) (next : ℕ) → (a ≡ Done → (x ≡ y) × (t ≡ u))
+    → placedReport (andThen a x) t next ≡ withNext (fetchReport (andThen a y) u) next
+report-after Done x y t u next h = let e = h refl in (λ i. placedReport (e .0 i) (e .1 i) next) ∙ sym (report-next y u next)
+report-after (Refused why) x y t u next h = refl
 
 left-after : (a x y : Answer) (t u out : List ℕ) → (a ≡ Done → (x ≡ y) × (t ≡ u)) → written (andThen a x) (handedOut t) out ≡ written (andThen a y) (handedOut u) out
 left-after Done x y t u out h = let e = h refl in λ i. written (e .0 i) (handedOut (e .1 i)) out
 left-after (Refused why) x y t u out h = refl
+
+pub without-with : (r : FetchAnswer) (next : ℕ) → withoutNext (withNext r next) ≡ r
+without-with (Fetched s t) next = refl
+without-with (FetchRefused why) next = refl
 
 -- the walk begins behind the opening fields, or at the end of a book that has none; fetch gives what stands where it ends
 module _ (kind : Kind) (key s : List ℕ) (k : ℕ) (out : List ℕ) where
@@ -155,15 +172,17 @@ module _ (kind : Kind) (key s : List ℕ) (k : ℕ) (out : List ℕ) where
   there done = sym (drop-drop (endsAt .at) from s) ∙ (λ i. drop (walkTo kind k (behind done i) .at) (behind done i))
 
   same : checkTests (length key) s ≡ Done
-      → (outcomeAt kind (openingSuite s) key (openingNumber s) (endsAt .number) (drop (from + endsAt .at) s) (length out)
+      → (outcomeAt kind key (openingBytes s) (endsAt .number) (drop (from + endsAt .at) s) (length out)
       ≡ outcomeFrom kind key (walkTo kind k (afterOpening s)) s (length out))
-      × (textAt kind (openingSuite s) key (openingNumber s) (endsAt .number) (drop (from + endsAt .at) s) ≡ textFrom kind key (walkTo kind k (afterOpening s)) s)
+      × (textAt kind key (openingBytes s) (endsAt .number) (drop (from + endsAt .at) s) ≡ textFrom kind key (walkTo kind k (afterOpening s)) s)
   same done = (
-    λ i. outcomeAt kind (openingSuite s) key (openingNumber s) (walkTo kind k (behind done i) .number) (there done i) (length out),
-    λ i. textAt kind (openingSuite s) key (openingNumber s) (walkTo kind k (behind done i) .number) (there done i),
+    λ i. outcomeAt kind key (openingBytes s) (walkTo kind k (behind done i) .number) (there done i) (length out),
+    λ i. textAt kind key (openingBytes s) (walkTo kind k (behind done i) .number) (there done i),
   )
 
-  pub fetch-placed : (placedAnswer kind key s (endsAt .number) (from + endsAt .at) out ≡ fetchAnswer kind key s k out)
-      × (placedBuffer kind key s (endsAt .number) (from + endsAt .at) out ≡ fetchBuffer kind key s k out)
-  unfolding placedAnswer placedBuffer placedOutcome placedText fetchAnswer fetchBuffer fetchOutcome fetchText
-  fetch-placed = (report-after (checkTests (length key) s) _ _ _ _ same, left-after (checkTests (length key) s) _ _ _ _ out same)
+  -- with the place of what stands behind it
+  pub fetch-placed : let next = nextOf kind (from + endsAt .at) (frameAt kind (endsAt .number) (drop (from + endsAt .at) s)) in
+      (placedAnswerOf kind key s (endsAt .number) (from + endsAt .at) out ≡ withNext (fetchAnswerOf kind key s k out) next)
+      × (placedBufferOf kind key s (endsAt .number) (from + endsAt .at) out ≡ fetchBufferOf kind key s k out)
+  unfolding placedAnswerOf placedBufferOf placedOutcome placedText fetchAnswerOf fetchBufferOf fetchOutcome fetchText
+  fetch-placed = (report-after (checkTests (length key) s) _ _ _ _ _ same, left-after (checkTests (length key) s) _ _ _ _ out same)

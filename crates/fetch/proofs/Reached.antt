@@ -1,14 +1,14 @@
 -- The walk over units that were written: the place where it ends.
 use mathlib.Core.Path.{_≡_, refl, sym, ap, _∙_}
 use mathlib.Core.List.{List, [], _∷_, _++_, append-assoc}
-use Prim.Native.Nat.{ℕ, zero, suc, _+_, _-_, _^_, _≤_}
+use Prim.Native.Nat.{ℕ, zero, suc, _+_, _-_, _^_, _≤_, _<_}
 use native.Mathlib.Nat.{zero-add, add-zero}
 use native.Mathlib.Omega.{arith}
 use lib.ListN.{length, drop, length-append}
 use lib.Seq.{drop-at, drop-drop}
 use Rattle.bits.specs.Bytes.{Bytes}
 use Rattle.suites.specs.declared.suite.Suite.{Suite}
-use Rattle.fields.specs.Each.{Each, none, more}
+use Rattle.fields.specs.Each.{EachFrom, noneFrom, moreFrom}
 use Rattle.fields.specs.Kind.{Kind, WellFormed}
 use Rattle.fields.specs.Unit.{BookUnit, Allowed, unitText}
 use Rattle.fields.proofs.Details.{length-detailsOf}
@@ -18,7 +18,8 @@ use Rattle.format.proofs.Lengths.{length-unitBytes}
 use Rattle.parser.specs.declared.frame.Frame.the-variants.{Unit, Close}
 use Rattle.parser.specs.Frame.{mostUnits, frameAt}
 use Rattle.walk.specs.declared.Place.{Place}
-use Rattle.walk.specs.Walk.{frameLength, nextPlace, firstPlace, walkOn, walkTo}
+use Rattle.kinds.specs.Lengths.{frameLength}
+use Rattle.walk.specs.Walk.{nextPlace, firstPlace, walkOn, walkTo}
 use Rattle.walk.proofs.Places.{walk-step}
 use Rattle.fetch.proofs.Written.{unit-frame}
 
@@ -37,12 +38,12 @@ module _ (kind : Kind) (suite : Suite) (key : List ℕ) (number : ℕ) where
   abbrev pub endPlace : List BookUnit → Place
   endPlace us = record { number = length us; at = length (unitsBytes kind suite key number 0 us) }
 
-  pub unit-length : (n : ℕ) (u : BookUnit) → Allowed kind u
+  pub unit-length : (n : ℕ) (u : BookUnit) → Allowed kind n u
       → length (unitBytes kind suite key number n u) ≡ frameLength kind (length (unitText (u .source) (u .target)))
   unit-length n u a =
       length-unitBytes kind suite key number n u (length-detailsOf kind u (a .given)) ∙ omega (arith, length-unitText (u .source) (u .target))
 
-  past-more : (p : Place) (u : BookUnit) (us : List BookUnit) → Allowed kind u
+  past-more : (p : Place) (u : BookUnit) (us : List BookUnit) → Allowed kind (p .number) u
       → pastUnits (nextPlace kind (length (unitText (u .source) (u .target))) p) us ≡ pastUnits p (u ∷ us)
   unfolding unitsBytes
   past-more p u us a =
@@ -54,19 +55,19 @@ module _ (kind : Kind) (suite : Suite) (key : List ℕ) (number : ℕ) where
       let place : p .at + frameLength kind m + length rest ≡ p .at + length (b ++ rest) = omega (arith, length-append b rest, unit-length n u a) in
       λ i. record { number = count i; at = place i }
 
-  module _ (long : length key ≡ 16) (keyBytes : Bytes key) (wf : WellFormed kind) where
+  module _ (fit : number < 2 ^ 64) (long : length key ≡ 16) (keyBytes : Bytes key) (wf : WellFormed kind) where
     -- past units, and then as many steps as are left
-    walk-past : (k : ℕ) (p : Place) (us : List BookUnit) (rest s : List ℕ) → Each (Allowed kind) us
+    walk-past : (k : ℕ) (p : Place) (us : List BookUnit) (rest s : List ℕ) → EachFrom (Allowed kind) (p .number) us
         → p .number + length us ≤ mostUnits → p .number + length us ≤ 256 ^ kind .numberBytes
         → drop (p .at) s ≡ unitsBytes kind suite key number (p .number) us ++ rest
         → walkOn kind (length us + k) p s ≡ walkOn kind k (pastUnits p us) s
     unfolding unitsBytes
-    walk-past k p [] rest s none few fits e =
+    walk-past k p [] rest s noneFrom few fits e =
         let steps : 0 + k ≡ k = omega arith in
         let count : p .number ≡ p .number + 0 = omega arith in
         let place : p .at ≡ p .at + 0 = omega arith in
         λ i. walkOn kind (steps i) (record { number = count i; at = place i }) s
-    walk-past k p (u ∷ us) rest s (more a each) few fits e =
+    walk-past k p (u ∷ us) rest s (moreFrom a each) few fits e =
         let n = p .number in
         let m = length (unitText (u .source) (u .target)) in
         let q = nextPlace kind m p in
@@ -78,12 +79,12 @@ module _ (kind : Kind) (suite : Suite) (key : List ℕ) (number : ℕ) where
         sym (drop-drop (frameLength kind m) (p .at) s) ∙ ap (drop (frameLength kind m)) here ∙ drop-at b z (frameLength kind m) (unit-length n u a) in
         ap (λ (j : ℕ). walkOn kind j p s) steps
         ∙ walk-step kind s (length us + k) p (Unit m)
-        (ap (frameAt kind n) here ∙ unit-frame kind suite key number long keyBytes n wf (omega arith) (omega arith) u a z)
+        (ap (frameAt kind n) here ∙ unit-frame kind suite key number fit long keyBytes n wf (omega arith) (omega arith) u a z)
         ∙ walk-past k q us rest s each (omega arith) (omega arith) there
         ∙ ap (λ (r : Place). walkOn kind k r s) (past-more p u us a)
 
     -- behind the opening fields: the place behind the units
-    module _ (us : List BookUnit) (rest : List ℕ) (each : Each (Allowed kind) us) (few : length us ≤ mostUnits) (fits : length us ≤ 256 ^ kind .numberBytes) where
+    module _ (us : List BookUnit) (rest : List ℕ) (each : EachFrom (Allowed kind) 0 us) (few : length us ≤ mostUnits) (fits : length us ≤ 256 ^ kind .numberBytes) where
       walk-on : (k : ℕ) → walkTo kind (length us + k) (unitsBytes kind suite key number 0 us ++ rest)
           ≡ walkOn kind k (endPlace us) (unitsBytes kind suite key number 0 us ++ rest)
       unfolding walkTo

@@ -1,21 +1,20 @@
 // Fetching unit k.
+use kinds::Kind;
 use parser::frame::Frame;
 use suites::refusal::Answer;
 use suites::refusal::Refusal;
-use suites::suite::Suite;
-ghost use mathlib.Core.Bool.{true};
 ghost use mathlib.Core.List.{[]};
 ghost use mathlib.Core.Path.{_≡_};
-ghost use Prim.Native.Nat.{_≤_};
+ghost use Prim.Native.Nat.{_+_, _^_, _≤_, _<_};
 ghost use lib.ListN.{length};
 ghost use Rattle.suites.specs.declared.refusal.Answer.the-variants.{Refused};
 ghost use Rattle.suites.specs.declared.refusal.Refusal.the-variants.{NoSuchUnit};
-ghost use Rattle.suites.specs.Suite.{listed};
-ghost use Rattle.sealing.specs.Seal.{written};
-ghost use Rattle.fields.specs.Kind.{kind10, writerKind};
+ghost use Rattle.kinds.specs.Kind.{kindOf};
 ghost use Rattle.parser.specs.Frame.{frameAt};
+ghost use Rattle.seals.specs.Parts.{Under};
 ghost use Rattle.seals.specs.Seal.{unitOpened};
-ghost use Rattle.fetch.specs.Fetch.{andThen, handedOut, textOutcome, unitOutcome, outcomeAt, textAt, fetchReport, fetchAnswer, fetchBuffer, placedAnswer, placedBuffer};
+ghost use Rattle.fetch.specs.Fetch.{andThen, textOutcome, unitOutcome, outcomeAt, textAt, fetchAnswer, fetchBuffer, nextOf, placedReport, placedAnswer, placedBuffer};
+ghost use Rattle.fetch.specs.Hands.{Hands, HandsNext, withNext, withoutNext};
 
 // The lengths of source and target, or the refusal.
 pub enum FetchAnswer {
@@ -23,10 +22,18 @@ pub enum FetchAnswer {
     Refused(Refusal),
 }
 
+// The same, and where the next unit or the close begins.
+pub enum PlacedAnswer {
+    Fetched(usize, usize, usize),
+    Refused(Refusal),
+}
+
 // The source and the target of a text at the output's start. Refusals: 12, 7.
 fn hand_out(text: &[u8], out: &mut [u8]) -> FetchAnswer
     requires { ⌜ 2 ≤ length (now text) ⌝ }
-    ensures { λ r. ⌜ (r ≡ fetchReport (textOutcome (now (text .entry)) (length (now (out .entry)))) (now (text .entry))) × (now (out .exit) ≡ written (textOutcome (now (text .entry)) (length (now (out .entry)))) (handedOut (now (text .entry))) (now (out .entry))) ⌝ }
+    ensures { λ r. ⌜ Hands
+        (textOutcome (now (text .entry)) (length (now (out .entry))))
+        (now (text .entry)) (now (out .entry)) r (now (out .exit)) ⌝ }
 {
     let m = text.len();
     if !seals::is_text(m, text[0], text[1]) {
@@ -43,28 +50,35 @@ fn hand_out(text: &[u8], out: &mut [u8]) -> FetchAnswer
 // The unit at the start of s, whose ciphertext has m bytes. It is deciphered once, in a working buffer, and nothing is handed out before its
 // tag has been compared. Refusals: 8, 12, 7.
 fn unit(
-    suite: Suite,
+    kind: Kind,
     key: &[u8],
-    number: u64,
+    front: &[u8],
     n: u64,
     m: usize,
     s: &[u8],
     out: &mut [u8],
 ) -> FetchAnswer
-    requires { ⌜ (listed (suite .cipher) (suite .steps) ≡ true) × (length (now key) ≡ 16) × (frameAt kind10 n (now s) ≡ Frame.Unit m) ⌝ }
-    ensures { λ r. ⌜ (r ≡ fetchReport (unitOutcome kind10 suite (now (key .entry)) number n m (now (s .entry)) (length (now (out .entry)))) (unitOpened kind10 suite (now (key .entry)) number n m (now (s .entry)))) × (now (out .exit) ≡ written (unitOutcome kind10 suite (now (key .entry)) number n m (now (s .entry)) (length (now (out .entry)))) (handedOut (unitOpened kind10 suite (now (key .entry)) number n m (now (s .entry)))) (now (out .entry))) ⌝ }
+    requires { ⌜ Under (now key) (now front) × (frameAt (kindOf kind) n (now s) ≡ Frame.Unit m) ⌝ }
+    ensures { λ r. ⌜ Hands
+        (unitOutcome (kindOf kind) (now (key .entry)) (now (front .entry)) n m (now (s .entry)) (length (now (out .entry))))
+        (unitOpened (kindOf kind) (now (key .entry)) (now (front .entry)) n m (now (s .entry)))
+        (now (out .entry)) r (now (out .exit)) ⌝ }
 {
-    let nonce = format::layout::nonce(number, n);
-    let along = format::layout::unit_along(suite, number, n, [s[5], s[6]], [s[7], s[8]]);
-    let end = 12 + m;
-    let tag = blockwise::block_at(s, end + 3);
+    let suite = parser::opening::suite(front);
+    let p = seals::unit_parts(kind, front, n, m, s);
+    let nonce = p.nonce;
+    let along = p.along;
+    let len = p.len;
+    let start = p.start;
+    let end = p.end;
+    let tag = p.tag;
     let mut text = [0u8; 8208];
     let answer = opening::within::open_within(
         suite,
         key,
         &nonce,
-        &along,
-        &s[12..end],
+        &along[..len],
+        &s[start..end],
         tag,
         &mut text,
     );
@@ -75,53 +89,77 @@ fn unit(
 }
 
 // The refusal of the close where a unit was looked for. Refusals: the close's, else 16.
-fn no_unit(closed: Answer) -> FetchAnswer
-    ensures { λ r. ⌜ r ≡ fetchReport (andThen closed (Refused NoSuchUnit)) [] ⌝ }
+fn no_unit(closed: Answer) -> PlacedAnswer
+    ensures { λ r. ⌜ r ≡ placedReport (andThen closed (Refused NoSuchUnit)) [] 0 ⌝ }
 {
     match closed {
-        Answer::Refused(why) => FetchAnswer::Refused(why),
-        Answer::Done => FetchAnswer::Refused(Refusal::NoSuchUnit),
+        Answer::Refused(why) => PlacedAnswer::Refused(why),
+        Answer::Done => PlacedAnswer::Refused(Refusal::NoSuchUnit),
     }
 }
 
-// What stands at the start of s, where the walk has ended with the running number n. Refusals: of a unit 14, 13, 15, 11, 14, 8, 12, 7; of a
-// close 14, 15, 8, 14, 16.
+// An answer with the place of the next unit, and without it.
+fn with_next(answer: FetchAnswer, next: usize) -> PlacedAnswer
+    ensures { λ r. ⌜ r ≡ withNext answer next ⌝ }
+{
+    match answer {
+        FetchAnswer::Refused(why) => PlacedAnswer::Refused(why),
+        FetchAnswer::Fetched(s, t) => PlacedAnswer::Fetched(s, t, next),
+    }
+}
+
+fn without_next(answer: PlacedAnswer) -> FetchAnswer
+    ensures { λ r. ⌜ r ≡ withoutNext answer ⌝ }
+{
+    match answer {
+        PlacedAnswer::Refused(why) => FetchAnswer::Refused(why),
+        PlacedAnswer::Fetched(s, t, next) => FetchAnswer::Fetched(s, t),
+    }
+}
+
+// What stands at the start of s, which begins at byte `at` of the book, where the walk has ended with the running number n. Refusals: of a unit
+// 14, 13, 15, 11, 14, 8, 12, 7; of a close 14, 15, 8, 14, 16.
 fn fetch_frame(
-    suite: Suite,
+    kind: Kind,
     key: &[u8],
-    number: u64,
+    front: &[u8],
     n: u64,
+    at: usize,
     s: &[u8],
     out: &mut [u8],
-) -> FetchAnswer
-    requires { ⌜ (listed (suite .cipher) (suite .steps) ≡ true) × (length (now key) ≡ 16) ⌝ }
-    ensures { λ r. ⌜ (r ≡ fetchReport (outcomeAt kind10 suite (now (key .entry)) number n (now (s .entry)) (length (now (out .entry)))) (textAt kind10 suite (now (key .entry)) number n (now (s .entry)))) × (now (out .exit) ≡ written (outcomeAt kind10 suite (now (key .entry)) number n (now (s .entry)) (length (now (out .entry)))) (handedOut (textAt kind10 suite (now (key .entry)) number n (now (s .entry)))) (now (out .entry))) ⌝ }
+) -> PlacedAnswer
+    requires { ⌜ Under (now key) (now front) × (at + length (now s) < 2 ^ 64) ⌝ }
+    ensures { λ r. ⌜ HandsNext
+        (outcomeAt (kindOf kind) (now (key .entry)) (now (front .entry)) n (now (s .entry)) (length (now (out .entry))))
+        (textAt (kindOf kind) (now (key .entry)) (now (front .entry)) n (now (s .entry)))
+        (nextOf (kindOf kind) at (frameAt (kindOf kind) n (now (s .entry))))
+        (now (out .entry)) r (now (out .exit)) ⌝ }
 {
-    let frame = parser::frame::at(n, s);
+    let frame = parser::frame::at(kind, n, s);
     match frame {
-        Frame::Refused(why) => FetchAnswer::Refused(why),
-        Frame::Close => no_unit(seals::close(suite, key, number, n, s)),
-        Frame::Unit(m) => unit(suite, key, number, n, m, s, out),
+        Frame::Refused(why) => PlacedAnswer::Refused(why),
+        Frame::Close => no_unit(seals::close(kind, key, front, n, s)),
+        Frame::Unit(m) => {
+            let next = at + kind.unit_len(m);
+            with_next(unit(kind, key, front, n, m, s, out), next)
+        }
     }
 }
 
 // Source and target of unit n at the output's start, where its header stands at byte `at` of the book; every other byte stays as it was. It is for
 // a caller that goes from one unit to the next. Refusals: 2; 14, 1; of a unit 14, 13, 15, 11, 14, 8, 12, then 7; of a close 14, 15, 8, 14, then
 // 16.
-pub fn fetch_placed(key: &[u8], book: &[u8], n: u64, at: usize, out: &mut [u8]) -> FetchAnswer
-    ensures { λ r. ⌜ (r ≡ placedAnswer writerKind (now (key .entry)) (now (book .entry)) n at (now (out .entry))) × (now (out .exit) ≡ placedBuffer writerKind (now (key .entry)) (now (book .entry)) n at (now (out .entry))) ⌝ }
+pub fn fetch_placed(key: &[u8], book: &[u8], n: u64, at: usize, out: &mut [u8]) -> PlacedAnswer
+    ensures { λ r. ⌜ (r ≡ placedAnswer (now (key .entry)) (now (book .entry)) n at (now (out .entry)))
+        × (now (out .exit) ≡ placedBuffer (now (key .entry)) (now (book .entry)) n at (now (out .entry))) ⌝ }
 {
-    if key.len() != 16 {
-        return FetchAnswer::Refused(Refusal::KeyLength);
-    }
-    let tested = parser::opening::tests(book);
+    let tested = parser::opening::tests_under(key, book);
     match tested {
-        Answer::Refused(why) => FetchAnswer::Refused(why),
+        Answer::Refused(why) => PlacedAnswer::Refused(why),
         Answer::Done => {
-            let suite = parser::opening::suite(book);
-            let number = parser::opening::number(book);
+            let kind = Kind::of_book(book);
             let from = sealing::counts::lesser(at, book.len());
-            fetch_frame(suite, key, number, n, &book[from..], out)
+            fetch_frame(kind, key, &book[..16], n, at, &book[from..], out)
         }
     }
 }
@@ -129,10 +167,13 @@ pub fn fetch_placed(key: &[u8], book: &[u8], n: u64, at: usize, out: &mut [u8]) 
 // The same of unit k, to which it walks. Refusals: 2; 14, 1; of each unit before k 14, 13, 15,
 // 11, 14; of unit k these, 8, 12, then 7; of the close 14, 15, 8, 14, then 16.
 pub fn fetch(key: &[u8], book: &[u8], k: u64, out: &mut [u8]) -> FetchAnswer
-    ensures { λ r. ⌜ (r ≡ fetchAnswer writerKind (now (key .entry)) (now (book .entry)) k (now (out .entry))) × (now (out .exit) ≡ fetchBuffer writerKind (now (key .entry)) (now (book .entry)) k (now (out .entry))) ⌝ }
+    ensures { λ r. ⌜ (r ≡ fetchAnswer (now (key .entry)) (now (book .entry)) k (now (out .entry)))
+        × (now (out .exit) ≡ fetchBuffer (now (key .entry)) (now (book .entry)) k (now (out .entry))) ⌝ }
 {
+    let kind = Kind::of_book(book);
     let from = sealing::counts::lesser(book.len(), 16);
-    let p = walk::to(k, &book[from..]);
+    let p = walk::to(kind, k, &book[from..]);
     let at = p.at;
-    fetch_placed(key, book, p.number, from + at, out)
+    let answer = fetch_placed(key, book, p.number, from + at, out);
+    without_next(answer)
 }

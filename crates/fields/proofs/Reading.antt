@@ -1,32 +1,21 @@
--- Strings joined in an output, and numbers and fields read from their bytes.
+-- Numbers and fields read from their bytes.
 use mathlib.Core.Path.{_≡_, sym, ap, _∙_}
 use mathlib.Core.Bool.{false, _&&_, and-true}
-use mathlib.Core.List.{List, [], _∷_, _++_, append-nil}
-use Prim.Native.Nat.{ℕ, _+_, _-_, _*_, _^_, _≤_, _<_}
-use native.Mathlib.Nat.{le-of-eq, pow-le-pow-right}
+use mathlib.Core.List.{List, [], _∷_}
+use Prim.Native.Nat.{ℕ, _+_, _*_, _^_, _≤_, _<_}
+use native.Mathlib.Nat.{pow-le-pow-right}
 use native.Mathlib.Decide.{ℕ-discrete}
 use native.Mathlib.Numerals.{add-one}
 use native.Mathlib.Omega.{arith}
 use borrow.Author.Tests.{ltb-false, lt-ltb, le-leb, lt-leb}
 use lib.Dec.{eqb, ltb}
-use lib.ListN.{length, getD, take, drop, length-take, length-drop, drop-of-length-le}
+use lib.ListN.{length, getD, take, length-take}
 use lib.Seq.{take-all, take-suc}
 use Rattle.bits.specs.Bytes.{Bytes, numberOf}
 use Rattle.bits.proofs.BigEndian.{numberOf-lt, numberOf-snoc}
 use Rattle.bits.proofs.Bytes.{bytes-take}
 use Rattle.bits.proofs.Lists.{part-at}
 use Rattle.fields.specs.Field.{fieldLength, hasField}
-
--- a is at the output's start, and b is copied to the rest
-pub joined : (a b x : List ℕ) → take (length a) x ≡ a → length x ≡ length a + length b
-    → take (length a) x ++ ((b ++ drop (length b) (take (length x - length a) (drop (length a) x))) ++ drop (length x - length a) (drop (length a) x)) ≡ a ++ b
-joined a b x front long =
-    let k = length x - length a in
-    let rest = drop (length a) x in
-    let l : length rest ≡ k = length-drop (length a) x in
-    let in-b : length (take k rest) ≤ length b = rw length-take (omega arith) in
-    (λ i. front i ++ ((b ++ drop-of-length-le (take k rest) {i = length b} in-b i) ++ drop-of-length-le rest {i = k} (le-of-eq l) i))
-    ∙ ap (λ (r : List ℕ). a ++ r) (append-nil (b ++ []) ∙ append-nil b)
 
 -- the number of the first i bytes
 module _ (s : List ℕ) (i : ℕ) where

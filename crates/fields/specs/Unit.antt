@@ -58,8 +58,8 @@ pub record Given (k : Kind) (u : BookUnit) : Type 0 where
   pub sourceBytes : Bytes (u .source)
   pub targetBytes : Bytes (u .target)
 
--- a unit that a book of the kind may have
-pub record Allowed (k : Kind) (u : BookUnit) : Type 0 where
+-- a unit that a book of the kind may have; n is the unit's number
+pub record Allowed (k : Kind) (n : ℕ) (u : BookUnit) : Type 0 where
   pub given : Given k u
   pub languages : pairAllowed (u .from) (u .to) ≡ true
   pub range : inRange (length (u .source)) (length (u .target)) ≡ true

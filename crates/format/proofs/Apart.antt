@@ -13,7 +13,7 @@ use Rattle.bits.proofs.BigEndian.{bigEndian-inj}
 use Rattle.calls.specs.Calls.{CipherCall}
 use Rattle.calls.proofs.Distinct.{tweaks-distinct, tweaks-apart}
 use Rattle.suites.specs.declared.suite.Suite.{Suite}
-use Rattle.fields.specs.Each.{Each, none, more}
+use Rattle.fields.specs.Each.{EachFrom, noneFrom, moreFrom}
 use Rattle.fields.specs.Kind.{Kind, WellFormed}
 use Rattle.format.specs.Sealings.{Sealing, nonceOf, unitSealing, closeSealing, unitSealings, sealingCalls, cipherCalls}
 use Rattle.fields.specs.Unit.{BookUnit, Allowed}
@@ -75,7 +75,7 @@ pub number-fits : {kind : Kind} → WellFormed kind → {n : ℕ} → n ≤ kind
 number-fits formed h = le-trans (omega arith) (pow-le-pow-right (zero-lt-suc 255) (formed .numbersShort))
 
 module _ (kind : Kind) (formed : WellFormed kind) (suite : Suite) (number : ℕ) where
-  unit-numbered : (n : ℕ) (u : BookUnit) → n ≤ kind .unitLimit → Allowed kind u → Numbered number n (unitSealing kind suite number n u)
+  unit-numbered : (n : ℕ) (u : BookUnit) → n ≤ kind .unitLimit → Allowed kind n u → Numbered number n (unitSealing kind suite number n u)
   unfolding unitSealing
   unit-numbered n u h a =
       let range = range-told (length (u .source)) (length (u .target)) (a .range) in
@@ -96,16 +96,16 @@ module _ (kind : Kind) (formed : WellFormed kind) (suite : Suite) (number : ℕ)
         text = omega arith;
       }
 
-  units-consecutive : (n : ℕ) (us : List BookUnit) (ss : List Sealing) → n + length us ≤ kind .unitLimit → Each (Allowed kind) us
+  units-consecutive : (n : ℕ) (us : List BookUnit) (ss : List Sealing) → n + length us ≤ kind .unitLimit → EachFrom (Allowed kind) n us
       → Consecutive number (n + length us) ss → Consecutive number n (unitSealings kind suite number n us ++ ss)
   unfolding unitSealings
-  units-consecutive n [] ss h none cs = rw add-zero at cs
-  units-consecutive n (u ∷ us) ss h (more a each) cs =
+  units-consecutive n [] ss h noneFrom cs = rw add-zero at cs
+  units-consecutive n (u ∷ us) ss h (moreFrom a each) cs =
       let e : n + length (u ∷ us) ≡ suc n + length us = omega arith in
       next (unit-numbered n u (omega arith) a) (units-consecutive (suc n) us ss (omega arith) each (rw e at cs))
 
   -- units from number n on, and the close behind them if there is one
-  pub book-apart : (n : ℕ) (us : List BookUnit) (closed : Bool) → n + length us ≤ kind .unitLimit → Each (Allowed kind) us
+  pub book-apart : (n : ℕ) (us : List BookUnit) (closed : Bool) → n + length us ≤ kind .unitLimit → EachFrom (Allowed kind) n us
       → List·Nodup
       (map (λ c. c .tweak) (cipherCalls (unitSealings kind suite number n us ++ cond closed (closeSealing kind suite number (n + length us) ∷ []) [])))
   book-apart n us true h each = all-apart number (units-consecutive n us _ h each (next (close-numbered (n + length us) h) done))

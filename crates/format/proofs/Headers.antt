@@ -1,4 +1,4 @@
--- Laws of kinds, of their headers and of a book's opening fields.
+-- Laws of the headers of kinds and of a book's opening fields.
 use mathlib.Core.Path.{_≡_, refl, sym, _∙_}
 use mathlib.Core.List.{List, [], _∷_, _++_, append-assoc, head-eq-of-cons-eq, tail-eq-of-cons-eq}
 use Prim.Native.Nat.{ℕ, _+_, _^_, _≤_, _<_}
@@ -8,20 +8,9 @@ use Rattle.bits.specs.Bytes.{bigEndian}
 use Rattle.bits.proofs.BigEndian.{length-bigEndian, bigEndian-inj}
 use Rattle.suites.specs.declared.suite.Suite.{Suite}
 use Rattle.fields.specs.Field.{fieldHead, field}
-use Rattle.fields.specs.Kind.{Kind, WellFormed, kind10}
+use Rattle.fields.specs.Kind.{Kind, WellFormed}
 use Rattle.format.specs.Sealings.{openingFields, unitHeader, closeHeader}
 use Rattle.fields.proofs.Fields.{append-inj, field-same}
-
-pub kind10-wellFormed : WellFormed kind10
-kind10-wellFormed =
-    record {
-      headerByte = omega arith;
-      closeByte = omega arith;
-      tagsDiffer = λ e. omega arith;
-      numbersFit = omega arith;
-      numbersShort = omega arith;
-      codesShort = omega arith;
-    }
 
 -- headers that begin one string
 module _ (kind : Kind) (n₁ n₂ : ℕ) where

@@ -1,4 +1,4 @@
--- The lengths of a book's parts, of the whole and of its call list; one unit more at the end.
+-- The lengths of a book's parts, of the whole and of its call list; units behind others.
 use mathlib.Core.Path.{_≡_, refl, sym, ap, _∙_}
 use mathlib.Core.Bool.{true, _&&_, and-eq-true-iff}
 use mathlib.Core.List.{List, [], _∷_, _++_, append-assoc, append-nil}
@@ -13,9 +13,10 @@ use Rattle.calls.specs.Tweak.{blocksOf}
 use Rattle.calls.proofs.Distinct.{length-calls}
 use Rattle.suites.specs.declared.suite.Suite.{Suite}
 use Rattle.sealing.proofs.Sealed.{length-sealed}
-use Rattle.fields.specs.Each.{Each, none, more}
+use Rattle.fields.specs.Each.{EachFrom, noneFrom, moreFrom}
 use Rattle.fields.specs.Kind.{Kind}
-use Rattle.format.specs.Layout.{sealedFields, unitBytes, closeBytes, unitsBytes, bookBytes, unitLength, closeLength, bookLength}
+use Rattle.kinds.specs.Lengths.{unitLength, closeLength}
+use Rattle.format.specs.Layout.{sealedFields, unitBytes, closeBytes, unitsBytes, bookBytes, bookLength}
 use Rattle.format.specs.Sealings.{
   Sealing,
   openingFields,
@@ -120,30 +121,30 @@ module _ (kind : Kind) (suite : Suite) (key : List ℕ) (number : ℕ) where
       ∙ ap (λ (x : List ℕ). unitsBytes kind suite key number n us ++ x) (append-nil (unitBytes kind suite key number (n + length us) u))
 
   -- a book's length counts its first fields and its close too
-  pub length-unitsBytes : (n : ℕ) (us : List BookUnit) → Each (Allowed kind) us
+  pub length-unitsBytes : (n : ℕ) (us : List BookUnit) → EachFrom (Allowed kind) n us
       → 16 + (length (unitsBytes kind suite key number n us) + closeLength kind) ≡ bookLength kind us
   unfolding unitsBytes bookLength
-  length-unitsBytes n [] none = omega arith
-  length-unitsBytes n (u ∷ us) (more a each) =
+  length-unitsBytes n [] noneFrom = omega arith
+  length-unitsBytes n (u ∷ us) (moreFrom a each) =
       let first = length-unitBytes n u (length-detailsOf kind u (a .given)) in
       let rest = length-unitsBytes (suc n) us each in
       simp length-append (omega arith)
 
-  pub length-bookBytes : (us : List BookUnit) → Each (Allowed kind) us → length (bookBytes kind suite key number us) ≡ bookLength kind us
+  pub length-bookBytes : (us : List BookUnit) → EachFrom (Allowed kind) 0 us → length (bookBytes kind suite key number us) ≡ bookLength kind us
   unfolding bookBytes
   length-bookBytes us each =
       simp (length-append, length-openingFields, length-closeBytes) (omega (arith, length-unitsBytes 0 us each))
 
 -- sealings and their cipher calls
 
-pub unitSealings-snoc : (kind : Kind) (suite : Suite) (number n : ℕ) (us : List BookUnit) (u : BookUnit)
-    → unitSealings kind suite number n (us ++ u ∷ []) ≡ unitSealings kind suite number n us ++ unitSealing kind suite number (n + length us) u ∷ []
+pub unitSealings-append : (kind : Kind) (suite : Suite) (number n : ℕ) (us vs : List BookUnit)
+    → unitSealings kind suite number n (us ++ vs) ≡ unitSealings kind suite number n us ++ unitSealings kind suite number (n + length us) vs
 unfolding unitSealings
-unitSealings-snoc kind suite number n [] u = ap (λ (k : ℕ). unitSealing kind suite number k u ∷ []) (omega arith)
-unitSealings-snoc kind suite number n (v ∷ us) u =
-    ap (λ (x : List Sealing). unitSealing kind suite number n v ∷ x)
-    (unitSealings-snoc kind suite number (suc n) us u
-    ∙ ap (λ (k : ℕ). unitSealings kind suite number (suc n) us ++ unitSealing kind suite number k u ∷ []) (omega arith))
+unitSealings-append kind suite number n [] vs = ap (λ (k : ℕ). unitSealings kind suite number k vs) (omega arith)
+unitSealings-append kind suite number n (u ∷ us) vs =
+    ap (λ (x : List Sealing). unitSealing kind suite number n u ∷ x)
+    (unitSealings-append kind suite number (suc n) us vs
+    ∙ ap (λ (k : ℕ). unitSealings kind suite number (suc n) us ++ unitSealings kind suite number k vs) (omega arith))
 
 pub length-sealingCalls : (s : Sealing) → length (sealingCalls s) ≡ blocksOf (length (s .header)) + blocksOf (length (s .text)) + 1
 unfolding sealingCalls

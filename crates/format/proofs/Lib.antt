@@ -1,3 +1,4 @@
+pub mod Behind
 pub mod Headers
 pub mod Lengths
 pub mod Apart

@@ -12,7 +12,7 @@ use Rattle.bits.proofs.Bytes.{bytes-append}
 use Rattle.suites.specs.declared.suite.Suite.{Suite}
 use Rattle.sealing.specs.Seal.{sealed}
 use Rattle.sealing.proofs.One.{sealed-one}
-use Rattle.fields.specs.Each.{Each, none, more}
+use Rattle.fields.specs.Each.{EachFrom, noneFrom, moreFrom}
 use Rattle.fields.specs.Field.{fieldHead, field}
 use Rattle.fields.specs.Kind.{Kind, WellFormed}
 use Rattle.format.specs.Layout.{sealedFields, unitBytes, closeBytes, unitsBytes, bookBytes, Bookable}
@@ -82,7 +82,7 @@ module _ (kind : Kind) (suite : Suite) (key : List ℕ) (number : ℕ) where
 
 module _ (kind : Kind) (suite : Suite) (key : List ℕ) (number : ℕ) (long : length key ≡ 16) (bytes : Bytes key) where
   -- units' bytes that begin one string are the same unit's
-  pub unitBytes-inj : (n : ℕ) {u₁ u₂ : BookUnit} {r₁ r₂ : List ℕ} → Allowed kind u₁ → Allowed kind u₂
+  pub unitBytes-inj : (n : ℕ) {u₁ u₂ : BookUnit} {r₁ r₂ : List ℕ} → Allowed kind n u₁ → Allowed kind n u₂
       → unitBytes kind suite key number n u₁ ++ r₁ ≡ unitBytes kind suite key number n u₂ ++ r₂ → (u₁ ≡ u₂) × (r₁ ≡ r₂)
   unfolding unitBytes unitSealing
   unitBytes-inj n {u₁} {u₂} {r₁} {r₂} a₁ a₂ e =
@@ -109,21 +109,21 @@ module _ (kind : Kind) (suite : Suite) (key : List ℕ) (number : ℕ) (long : l
       whole : (u : BookUnit) → length (sealing u) ≡ length (text u) + 16
       whole u = length-unitSealed kind suite key number n u ∙ omega (arith, length-unitText (u .source) (u .target))
 
-      small : (u : BookUnit) → Allowed kind u → (length (u .source) < 65536) × (length (text u) < 65536)
+      small : (u : BookUnit) → Allowed kind n u → (length (u .source) < 65536) × (length (text u) < 65536)
       small u a = omega (arith, range-told (length (u .source)) (length (u .target)) (a .range), length-unitText (u .source) (u .target))
 
-      plain : (u : BookUnit) → Allowed kind u → Bytes (text u)
+      plain : (u : BookUnit) → Allowed kind n u → Bytes (text u)
       plain u a = bytes-unitText (u .source) (u .target) (a .given .sourceBytes) (a .given .targetBytes)
 
   -- before strings that no unit's bytes begin stand the same units, and these strings are the same
   units-one : (n : ℕ) {us₁ us₂ : List BookUnit} {r₁ r₂ : List ℕ} → NoUnit kind suite key number r₁ → NoUnit kind suite key number r₂
-      → Each (Allowed kind) us₁ → Each (Allowed kind) us₂
+      → EachFrom (Allowed kind) n us₁ → EachFrom (Allowed kind) n us₂
       → unitsBytes kind suite key number n us₁ ++ r₁ ≡ unitsBytes kind suite key number n us₂ ++ r₂ → (us₁ ≡ us₂) × (r₁ ≡ r₂)
   unfolding unitsBytes
-  units-one n no₁ no₂ none none e = (refl, e)
-  units-one n no₁ no₂ none (more {a = u} a each) e = absurd (no₁ n u _ (sym (append-assoc (unitBytes kind suite key number n u) _ _) ∙ sym e))
-  units-one n no₁ no₂ (more {a = u} a each) none e = absurd (no₂ n u _ (sym (append-assoc (unitBytes kind suite key number n u) _ _) ∙ e))
-  units-one n no₁ no₂ (more {a = u₁} a₁ each₁) (more {a = u₂} a₂ each₂) e =
+  units-one n no₁ no₂ noneFrom noneFrom e = (refl, e)
+  units-one n no₁ no₂ noneFrom (moreFrom {a = u} a each) e = absurd (no₁ n u _ (sym (append-assoc (unitBytes kind suite key number n u) _ _) ∙ sym e))
+  units-one n no₁ no₂ (moreFrom {a = u} a each) noneFrom e = absurd (no₂ n u _ (sym (append-assoc (unitBytes kind suite key number n u) _ _) ∙ e))
+  units-one n no₁ no₂ (moreFrom {a = u₁} a₁ each₁) (moreFrom {a = u₂} a₂ each₂) e =
       let first = unitBytes-inj n a₁ a₂
       (sym (append-assoc (unitBytes kind suite key number n u₁) _ _) ∙ e ∙ append-assoc (unitBytes kind suite key number n u₂) _ _) in
       let rest = units-one (suc n) no₁ no₂ each₁ each₂ (first .1) in

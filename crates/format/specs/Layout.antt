@@ -7,11 +7,12 @@ use lib.ListN.{length, take, drop}
 use Rattle.bits.specs.Bytes.{Bytes}
 use Rattle.suites.specs.declared.suite.Suite.{Suite}
 use Rattle.suites.specs.Suite.{listed}
-use Rattle.fields.specs.Each.{Each}
+use Rattle.fields.specs.Each.{EachFrom}
 use Rattle.fields.specs.Field.{field}
 use Rattle.fields.specs.Kind.{Kind}
+use Rattle.kinds.specs.Lengths.{unitLength, closeLength}
 use Rattle.format.specs.Sealings.{openingFields, unitHeader, closeHeader, unitSealing, closeSealing, sealedBytes}
-use Rattle.fields.specs.Unit.{BookUnit, Allowed, detailsOf, detailsLength, unitText}
+use Rattle.fields.specs.Unit.{BookUnit, Allowed, detailsOf, unitText}
 
 -- "11 (ciphertext of 3 to 8,194 bytes), 12 (tag, 16)"; "fields 11 and 12 hold its ciphertext (none at a close) and its tag": of sealed
 -- bytes whose ciphertext has m
@@ -44,16 +45,10 @@ pub record Bookable (kind : Kind) (suite : Suite) (key : List ℕ) (number : ℕ
   pub keyLong : length key ≡ 16
   pub keyBytes : Bytes key
   pub numberFits : number < 2 ^ 64
-  pub units : Each (Allowed kind) us
+  pub units : EachFrom (Allowed kind) 0 us
   pub few : length us ≤ kind .unitLimit
 
--- "A book takes 16 + the sum of (33 + s + t) + 24 bytes" (length-bookBytes): a unit, the close, the whole
-abbrev pub unitLength : Kind → ℕ → ℕ → ℕ
-unitLength kind s t = 27 + kind .numberBytes + detailsLength kind + (s + t)
-
-abbrev pub closeLength : Kind → ℕ
-closeLength kind = 22 + kind .numberBytes
-
+-- "A book takes 16 + the sum of (33 + s + t) + 24 bytes" (length-bookBytes)
 unfoldable pub bookLength : Kind → List BookUnit → ℕ
 bookLength kind [] = 16 + closeLength kind
 bookLength kind (u ∷ us) = unitLength kind (length (u .source)) (length (u .target)) + bookLength kind us

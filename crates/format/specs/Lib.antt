@@ -1,2 +1,3 @@
 pub mod Sealings
 pub mod Layout
+pub mod Along

@@ -2,10 +2,9 @@
 use mathlib.Core.Path.{_≡_, sym, ap, _∙_}
 use mathlib.Core.List.{List, _++_, append-assoc}
 use Prim.Native.Nat.{ℕ, _+_, _-_, _^_, _≤_}
-use native.Mathlib.Nat.{le-of-eq}
 use native.Mathlib.Omega.{arith}
 use lib.ListN.{length, take, drop, length-append, length-drop, take-append-drop}
-use lib.Seq.{take-all, take-at, drop-at, take-append-le, drop-append-le, length-take-le}
+use lib.Seq.{take-add, take-at, drop-at, take-append-le, drop-append-le, length-take-le}
 use Rattle.calls.specs.Calls.{calls}
 use Rattle.suites.specs.declared.refusal.Answer.{Answer}
 use Rattle.suites.specs.declared.refusal.Answer.the-variants.{Done}
@@ -15,24 +14,35 @@ use Rattle.limits.proofs.Passed.{seal-passes}
 use Rattle.sealing.specs.declared.seal.SealAnswer.{SealAnswer}
 use Rattle.sealing.specs.Seal.{sealed, written, sealReport, inPlaceOutcome, inPlaceAnswer, inPlaceBuffer}
 use Rattle.fields.specs.Field.{fieldHead, field}
+use Rattle.format.specs.declared.layout.Along.{Along}
+use Rattle.format.specs.Along.{AlongOf}
 use Rattle.format.specs.Layout.{sealedFields}
 use Rattle.format.specs.Sealings.{Sealing, openingFields, sealedBytes, sealingCalls}
 use Rattle.sealing.proofs.Sealed.{length-sealed}
 use Rattle.format.proofs.Lengths.{length-openingFields}
 use Rattle.frames.specs.Parts.{callCount, Within, tagApart}
-use Rattle.frames.proofs.Behind.{later, behind}
+use Rattle.format.proofs.Behind.{copied, later, behind}
 
 -- the header of a unit or a close, n bytes, behind the opening fields
-module _ (suite : Suite) (number n : ℕ) (head along : List ℕ) (is : along ≡ openingFields suite number ++ head) (long : length along ≡ 16 + n) where
+module _ (suite : Suite) (number n : ℕ) (head : List ℕ) (r : Along) {m : ℕ} (a : AlongOf (openingFields suite number ++ head) m r) (long : r .len ≡ 16 + n) where
+  length-along : length (take (r .len) (r .bytes)) ≡ r .len
+  length-along = length-take-le (r .len) (r .bytes) (a .fits)
+
   pub length-head : length head ≡ n
   length-head =
-      omega (arith, ap length is, length-append (openingFields suite number) head, length-openingFields suite number)
+      omega (arith, length-along, ap length (a .is), length-append (openingFields suite number) head, length-openingFields suite number)
 
-  pub head-behind : take n (drop 16 along) ≡ head
-  head-behind =
-      ap (λ (x : List ℕ). take n (drop 16 x)) is
-      ∙ ap (take n) (drop-at (openingFields suite number) head 16 (length-openingFields suite number))
-      ∙ take-all n head (le-of-eq length-head)
+  -- copied to the start of an output
+  pub head-put : (out x : List ℕ) → let h = take (r .len - 16) (drop 16 (r .bytes)) in x ≡ h ++ drop (length h) out → x ≡ head ++ drop n out
+  head-put out x e =
+      let k : ℕ = r .len - 16 in
+      let all : 16 + k ≡ r .len = omega arith in
+      let front : length (take 16 (r .bytes)) ≡ 16 = length-take-le 16 (r .bytes) (omega (arith, a .fits)) in
+      let is : take k (drop 16 (r .bytes)) ≡ head =
+      sym (drop-at (take 16 (r .bytes)) (take k (drop 16 (r .bytes))) 16 front)
+      ∙ ap (drop 16) (sym (take-add 16 k (r .bytes)) ∙ ap (λ (i : ℕ). take i (r .bytes)) all ∙ a .is)
+      ∙ drop-at (openingFields suite number) head 16 (length-openingFields suite number) in
+      copied n head (take k (drop 16 (r .bytes))) out x length-head is e
 
 -- a sealing under the nonce and the header that are made for it
 module _ (s : Sealing) (nonce header : List ℕ) (n : nonce ≡ s .nonce) (h : header ≡ s .header) where

@@ -7,6 +7,7 @@ use lib.ListN.{length, take, drop}
 use Rattle.suites.specs.declared.suite.Suite.{Suite}
 use Rattle.suites.specs.Suite.{listed}
 use Rattle.fields.specs.Field.{field}
+use Rattle.format.specs.Sealings.{Sealing, sealingCalls}
 use Rattle.sealing.specs.declared.seal.SealAnswer.{SealAnswer}
 use Rattle.sealing.specs.declared.seal.SealAnswer.the-variants.{Sealed, Refused}
 
@@ -25,3 +26,8 @@ pub record Within (suite : Suite) (nonce header : List ℕ) (m : ℕ) : Type 0 w
   pub nonceLong : length nonce ≡ 12
   pub headerShort : length header ≤ 2 ^ 24
   pub textShort : m ≤ 2 ^ 24
+
+-- bytes of this length that were put at the start of an output, which became x, and the r cipher calls of their sealing
+pub record Put (s : Sealing) (bytes : List ℕ) (n : ℕ) (out x : List ℕ) (r : ℕ) : Type 0 where
+  pub calls : r ≡ length (sealingCalls s)
+  pub is : x ≡ bytes ++ drop n out

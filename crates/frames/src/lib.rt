@@ -1,4 +1,5 @@
 // A unit and a close, put where a part of the buffer starts. Each public function serves the writer, which has tested what it asks.
+use kinds::Kind;
 use sealing::seal::SealAnswer;
 use suites::suite::Suite;
 ghost use mathlib.Core.Bool.{true};
@@ -9,12 +10,13 @@ ghost use lib.ListN.{length, take, drop};
 ghost use Rattle.calls.specs.Calls.{calls};
 ghost use Rattle.suites.specs.Suite.{listed};
 ghost use Rattle.fields.specs.Field.{field};
-ghost use Rattle.fields.specs.Kind.{writerKind};
-ghost use Rattle.format.specs.Layout.{sealedFields, unitBytes, closeBytes, unitLength, closeLength};
-ghost use Rattle.format.specs.Sealings.{unitSealing, closeSealing, sealingCalls};
+ghost use Rattle.kinds.specs.Kind.{kindOf};
+ghost use Rattle.kinds.specs.Lengths.{unitLength, closeLength};
+ghost use Rattle.format.specs.Layout.{sealedFields, unitBytes, closeBytes};
+ghost use Rattle.format.specs.Sealings.{unitSealing, closeSealing};
 ghost use Rattle.fields.specs.Unit.{unitOf, unitText, inRange};
 ghost use Rattle.sealing.specs.Seal.{sealed};
-ghost use Rattle.frames.specs.Parts.{callCount, Within, tagApart};
+ghost use Rattle.frames.specs.Parts.{callCount, Within, tagApart, Put};
 
 // The number of cipher calls that a sealing has made.
 fn calls_of(answer: SealAnswer) -> u64
@@ -33,8 +35,7 @@ fn put_text(source: &[u8], target: &[u8], out: &mut [u8])
 {
     let s = source.len();
     let n = 2 + s;
-    fields::number::put(s as u64, &mut out[..2]);
-    sums::copy(source, &mut out[2..]);
+    format::bytes::number_then(s as u64, 2, source, out);
     sums::copy(target, &mut out[n..]);
 }
 
@@ -88,6 +89,7 @@ fn put_sealed(
 
 // Unit n; the number of cipher calls.
 pub fn put_unit(
+    kind: Kind,
     suite: Suite,
     key: [u8; 16],
     number: u64,
@@ -98,22 +100,53 @@ pub fn put_unit(
     target: &[u8],
     out: &mut [u8],
 ) -> u64
-    requires { ⌜ (listed (suite .cipher) (suite .steps) ≡ true) × (inRange (length (now source)) (length (now target)) ≡ true) × (unitLength writerKind (length (now source)) (length (now target)) ≤ length (now out)) ⌝ }
-    ensures { λ r. ⌜ (r ≡ length (sealingCalls (unitSealing writerKind suite number n (unitOf from to (now (source .entry)) (now (target .entry)))))) × (now (out .exit) ≡ unitBytes writerKind suite key number n (unitOf from to (now (source .entry)) (now (target .entry))) ++ drop (unitLength writerKind (length (now (source .entry))) (length (now (target .entry)))) (now (out .entry))) ⌝ }
+    requires { ⌜ (listed (suite .cipher) (suite .steps) ≡ true)
+        × (inRange (length (now source)) (length (now target)) ≡ true)
+        × (unitLength (kindOf kind) (length (now source)) (length (now target)) ≤ length (now out)) ⌝ }
+    ensures { λ r. ⌜ Put
+        (unitSealing (kindOf kind) suite number n (unitOf from to (now (source .entry)) (now (target .entry))))
+        (unitBytes (kindOf kind) suite key number n (unitOf from to (now (source .entry)) (now (target .entry))))
+        (unitLength (kindOf kind) (length (now (source .entry))) (length (now (target .entry))))
+        (now (out .entry)) (now (out .exit)) r ⌝ }
 {
     let nonce = format::layout::nonce(number, n);
-    let along = format::layout::unit_along(suite, number, n, from, to);
-    sums::copy(&along[16..], out);
-    put_sealed(suite, key, &nonce, &along, source, target, &mut out[9..])
+    let along = format::layout::unit_along(kind, suite, number, n, from, to);
+    let bytes = along.bytes;
+    let len = along.len;
+    let h = kind.header_len();
+    sums::copy(&bytes[16..len], out);
+    put_sealed(
+        suite,
+        key,
+        &nonce,
+        &bytes[..len],
+        source,
+        target,
+        &mut out[h..],
+    )
 }
 
 // The close after n units; the number of cipher calls.
-pub fn put_close(suite: Suite, key: [u8; 16], number: u64, n: u64, out: &mut [u8]) -> u64
-    requires { ⌜ (listed (suite .cipher) (suite .steps) ≡ true) × (closeLength writerKind ≤ length (now out)) ⌝ }
-    ensures { λ r. ⌜ (r ≡ length (sealingCalls (closeSealing writerKind suite number n))) × (now (out .exit) ≡ closeBytes writerKind suite key number n ++ drop (closeLength writerKind) (now (out .entry))) ⌝ }
+pub fn put_close(
+    kind: Kind,
+    suite: Suite,
+    key: [u8; 16],
+    number: u64,
+    n: u64,
+    out: &mut [u8],
+) -> u64
+    requires { ⌜ (listed (suite .cipher) (suite .steps) ≡ true) × (closeLength (kindOf kind) ≤ length (now out)) ⌝ }
+    ensures { λ r. ⌜ Put
+        (closeSealing (kindOf kind) suite number n)
+        (closeBytes (kindOf kind) suite key number n)
+        (closeLength (kindOf kind))
+        (now (out .entry)) (now (out .exit)) r ⌝ }
 {
     let last = format::layout::nonce(number, n);
-    let along = format::layout::close_along(suite, number, n);
-    sums::copy(&along[16..], out);
-    seal_here(suite, key, &last, &along, 0, &mut out[5..])
+    let along = format::layout::close_along(kind, suite, number, n);
+    let bytes = along.bytes;
+    let len = along.len;
+    let h = kind.close_header_len();
+    sums::copy(&bytes[16..len], out);
+    seal_here(suite, key, &last, &bytes[..len], 0, &mut out[h..])
 }

@@ -15,18 +15,21 @@ use Rattle.suites.specs.declared.refusal.Answer.{Answer}
 use Rattle.suites.specs.declared.refusal.Answer.the-variants.{Done, Refused}
 use Rattle.limits.proofs.Passed.{unless-passed, unless-passes}
 use Rattle.fields.specs.Field.{fieldHead, field, fieldLength, hasField, fieldValue, afterField}
-use Rattle.fields.specs.Kind.{Kind, WellFormed, kind10}
+use Rattle.fields.specs.Kind.{Kind, WellFormed}
 use Rattle.fields.specs.Languages.{pairAllowed}
 use Rattle.format.specs.Layout.{sealedFields}
 use Rattle.format.specs.Sealings.{unitHeader, closeHeader}
 use Rattle.fields.specs.Unit.{detailsLength}
+use Rattle.kinds.specs.declared.Kind.{Kind as BookKind}
+use Rattle.kinds.specs.declared.Kind.the-variants.{Tag10}
+use Rattle.kinds.specs.Kind.{kindOf}
+use Rattle.kinds.specs.Lengths.{headerBytes}
+use Rattle.kinds.proofs.Formed.{formed}
 use Rattle.fields.proofs.Fields.{field-told, value-long, field-held}
-use Rattle.format.proofs.Headers.{kind10-wellFormed}
 use Rattle.parser.specs.declared.frame.Frame.the-variants.{Unit, Close}
 use Rattle.parser.specs.Frame.{
   mostUnits,
   ciphertextAllowed,
-  headerBytes,
   frameNumber,
   frameDetails,
   frameFrom,
@@ -383,6 +386,6 @@ close-told kind n s e =
           ∙ (λ i. field (kind .closeTag) ((number-held kind s long b ∙ ap (bigEndian k) stated) i) ++ field-held 0x12 16 r (both .1) (bytes-after k s b) i);
     }
 
--- the kind of the base can be read
-pub kind10-readable : Readable kind10
-kind10-readable = record { wellFormed = kind10-wellFormed; limit = refl }
+-- every kind can be read
+pub readable : (k : BookKind) → Readable (kindOf k)
+readable Tag10 = record { wellFormed = formed Tag10; limit = refl }

@@ -1,11 +1,12 @@
 -- The opening fields: those that are written are read back, and those that are read were written.
 use mathlib.Core.Path.{_≡_, refl, sym, ap, _∙_}
 use mathlib.Core.Bool.{true, and-eq-true-iff}
-use mathlib.Core.List.{List, [], _∷_, _++_, append-assoc}
-use Prim.Native.Nat.{ℕ, _-_, _^_, _≤_, _<_}
+use mathlib.Core.List.{List, [], _∷_, _++_, append-assoc, append-nil}
+use Prim.Native.Nat.{ℕ, zero, suc, _+_, _-_, _^_, _≤_, _<_}
+use native.Mathlib.Nat.{zero-add, suc-add}
 use native.Mathlib.Omega.{arith}
-use lib.ListN.{length, take, drop, length-drop}
-use lib.Seq.{take-all, drop-drop}
+use lib.ListN.{length, take, drop, length-drop, take-append-drop}
+use lib.Seq.{length-take-le, take-all, take-nil, take-take, drop-drop, getD-take}
 use Rattle.bits.specs.Bytes.{Bytes, bigEndian, numberOf}
 use Rattle.bits.proofs.BigEndian.{length-bigEndian, numberOf-lt, bigEndian-numberOf, numberOf-bigEndian}
 use Rattle.bits.proofs.Lists.{part-at}
@@ -17,7 +18,7 @@ use Rattle.limits.proofs.Passed.{unless-passed, unless-passes}
 use Rattle.fields.specs.Field.{fieldHead, field, hasField, fieldValue, afterField}
 use Rattle.format.specs.Sealings.{openingFields}
 use Rattle.fields.proofs.Fields.{field-told, value-long, field-held}
-use Rattle.parser.specs.Opening.{hasOpening, openingNumber, openingSuite, afterOpening, openingTests}
+use Rattle.parser.specs.Opening.{hasOpening, openingNumber, openingSuite, openingBytes, afterOpening, openingTests}
 use Rattle.parser.proofs.Fields.{bytes-value, bytes-after, after-at, field-at, length-after}
 
 module _ (suite : Suite) (number : ℕ) (rest : List ℕ) where
@@ -114,3 +115,59 @@ opening-passed s e =
     let suite = unless-passed (listed (openingSuite s .cipher) (openingSuite s .steps)) SuiteNotListed Done (has .1) in
     let both = and-eq-true-iff (hasField 0x01 8 s) (hasField 0x02 2 (afterField 8 s)) .0 (has .0) in
     (suite .0, omega (arith, length-after 0x01 8 s (both .0), field-told 0x02 2 (afterField 8 s) (both .1)))
+
+-- the bytes of opening fields that are written
+module _ (suite : Suite) (number : ℕ) (rest : List ℕ) where
+  pub front-here : openingBytes (openingFields suite number ++ rest) ≡ openingFields suite number
+  unfolding openingBytes openingFields field fieldHead bigEndian
+  front-here = refl
+
+  front-first : {s : List ℕ} → s ≡ openingFields suite number ++ rest → openingBytes s ≡ openingFields suite number
+  front-first e = ap openingBytes e ∙ front-here
+
+pub front-says : (suite : Suite) (number : ℕ) → number < 2 ^ 64
+    → (openingSuite (openingFields suite number) ≡ suite) × (openingNumber (openingFields suite number) ≡ number)
+front-says suite number h =
+    let all = append-nil (openingFields suite number) in (
+      ap openingSuite (sym all) ∙ suite-here suite number [],
+      ap openingNumber (sym all) ∙ number-here suite number [] h,
+    )
+
+-- the first of the elements behind k
+drop-take : (k n : ℕ) (s : List ℕ) → drop k (take (k + n) s) ≡ take n (drop k s)
+drop-take zero n s = ap (λ (m : ℕ). take m s) (zero-add n)
+drop-take (suc k) n [] = ap (drop (suc k)) (take-nil (suc k + n)) ∙ sym (take-nil n)
+drop-take (suc k) n (a ∷ s) = ap (λ (m : ℕ). drop (suc k) (take m (a ∷ s))) (suc-add k n) ∙ drop-take k n s
+
+-- the bytes of the opening fields say what the book says
+module _ (s : List ℕ) where
+  pub front-suite : openingSuite (openingBytes s) ≡ openingSuite s
+  unfolding openingSuite openingBytes
+  front-suite = λ i. record { cipher = getD-take 16 s 14 0 (omega arith) i; steps = getD-take 16 s 15 0 (omega arith) i }
+
+  pub front-number : openingNumber (openingBytes s) ≡ openingNumber s
+  unfolding openingNumber openingBytes fieldValue
+  front-number = ap (λ (l : List ℕ). numberOf (take 8 l)) (drop-take 3 13 s) ∙ ap numberOf (take-take 8 13 (drop 3 s) (omega arith))
+
+  pub front-rest : openingBytes s ++ afterOpening s ≡ s
+  unfolding openingBytes afterOpening
+  front-rest = take-append-drop 16 s
+
+  -- where they pass their tests
+  module _ (done : openingTests s ≡ Done) where
+    pub front-long : length (openingBytes s) ≡ 16
+    unfolding openingBytes
+    front-long = length-take-le 16 s (opening-passed s done .1)
+
+    pub front-listed : listed (openingSuite (openingBytes s) .cipher) (openingSuite (openingBytes s) .steps) ≡ true
+    front-listed = rw front-suite (opening-passed s done .0)
+
+    -- they are those that a writer makes
+    pub front-held : Bytes s
+        → (openingNumber (openingBytes s) < 2 ^ 64)
+        × (openingBytes s ≡ openingFields (openingSuite (openingBytes s)) (openingNumber (openingBytes s)))
+    front-held bytes =
+        let o = opening-told s bytes done in (
+          rw front-number (o .1),
+          front-first (openingSuite s) (openingNumber s) (afterOpening s) (o .2) ∙ (λ i. openingFields (sym front-suite i) (sym front-number i)),
+        )

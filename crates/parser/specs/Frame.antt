@@ -15,6 +15,7 @@ use Rattle.fields.specs.Field.{fieldLength, hasField, fieldValue, afterField}
 use Rattle.fields.specs.Kind.{Kind, WellFormed}
 use Rattle.fields.specs.Languages.{pairAllowed}
 use Rattle.fields.specs.Unit.{detailsLength}
+use Rattle.kinds.specs.Lengths.{headerBytes}
 use Rattle.parser.specs.declared.frame.Frame.{Frame}
 use Rattle.parser.specs.declared.frame.Frame.the-variants.{Unit, Close, Refused as FrameRefused}
 
@@ -25,10 +26,6 @@ mostUnits = 65535
 -- "11 (ciphertext of 3 to 8,194 bytes)"
 abbrev pub ciphertextAllowed : ℕ → Bool
 ciphertextAllowed m = leb 3 m && leb m 8194
-
--- how many bytes the value of a unit's header has: its number, then its details
-abbrev pub headerBytes : Kind → ℕ
-headerBytes kind = kind .numberBytes + detailsLength kind
 
 -- the number that a unit's header or a close states
 unfoldable pub frameNumber : Kind → List ℕ → ℕ

@@ -1,14 +1,15 @@
 // What stands at a place of a book.
+use kinds::Kind;
 use suites::refusal::Refusal;
 ghost use mathlib.Core.Path.{_≡_};
 ghost use Prim.Native.Nat.{_≤_};
-ghost use lib.Dec.{eqb};
 ghost use lib.ListN.{length};
 ghost use Rattle.suites.specs.declared.refusal.Answer.the-variants.{Done};
 ghost use Rattle.suites.specs.declared.refusal.Refusal.the-variants.{FieldMalformed};
 ghost use Rattle.limits.specs.Tests.{unless};
 ghost use Rattle.fields.specs.Field.{fieldLength};
-ghost use Rattle.fields.specs.Kind.{kind10};
+ghost use Rattle.kinds.specs.Kind.{kindOf};
+ghost use Rattle.kinds.specs.Lengths.{headerLength, closeHeaderLength};
 ghost use Rattle.fields.specs.Languages.{pairAllowed};
 ghost use Rattle.parser.specs.Frame.{frameNumber, frameFrom, frameTo, afterHeader, hasSealed, unitTests, closeTests, frameOf, frameAt};
 
@@ -19,33 +20,38 @@ pub enum Frame {
     Refused(Refusal),
 }
 
-// Whether the number that stands there is n.
-fn is_number(n: u64, s: &[u8]) -> bool
-    requires { ⌜ 5 ≤ length (now s) ⌝ }
-    ensures { λ r. ⌜ r ≡ eqb (frameNumber kind10 (now (s .entry))) n ⌝ }
+// The number that stands there.
+fn number_at(kind: Kind, s: &[u8]) -> u64
+    requires { ⌜ closeHeaderLength (kindOf kind) ≤ length (now s) ⌝ }
+    ensures { λ r. ⌜ r ≡ frameNumber (kindOf kind) (now (s .entry)) ⌝ }
 {
-    fields::field::pair(s[3], s[4]) as u64 == n
+    let end = kind.close_header_len();
+    fields::number::of(&s[3..end])
 }
 
 // Whether a unit may have the languages that stand there.
-fn is_pair(s: &[u8]) -> bool
-    requires { ⌜ 9 ≤ length (now s) ⌝ }
-    ensures { λ r. ⌜ r ≡ pairAllowed (frameFrom kind10 (now (s .entry))) (frameTo kind10 (now (s .entry))) ⌝ }
+fn is_pair(kind: Kind, s: &[u8]) -> bool
+    requires { ⌜ headerLength (kindOf kind) ≤ length (now s) ⌝ }
+    ensures { λ r. ⌜ r ≡ pairAllowed (frameFrom (kindOf kind) (now (s .entry))) (frameTo (kindOf kind) (now (s .entry))) ⌝ }
 {
-    fields::unit::is_pair([s[5], s[6]], [s[7], s[8]])
+    let from = kind.close_header_len();
+    let to = from + kind.code_bytes();
+    fields::unit::is_pair([s[from], s[from + 1]], [s[to], s[to + 1]])
 }
 
 // A close, where the running number is n. Refusals: 14, 15.
-fn close_at(n: u64, s: &[u8]) -> Frame
-    ensures { λ r. ⌜ r ≡ frameOf (closeTests kind10 n (now (s .entry))) Frame.Close ⌝ }
+fn close_at(kind: Kind, n: u64, s: &[u8]) -> Frame
+    ensures { λ r. ⌜ r ≡ frameOf (closeTests (kindOf kind) n (now (s .entry))) Frame.Close ⌝ }
 {
-    if !fields::field::has(0x20, 2, s) {
+    if !fields::field::has(kind.close_tag(), kind.number_bytes(), s) {
         return Frame::Refused(Refusal::FieldMalformed);
     }
-    if !fields::field::has(0x12, 16, &s[5..]) {
+    let after = kind.close_header_len();
+    if !fields::field::has(0x12, 16, &s[after..]) {
         return Frame::Refused(Refusal::FieldMalformed);
     }
-    if !is_number(n, s) {
+    let count = number_at(kind, s);
+    if count != n {
         return Frame::Refused(Refusal::NumberOutOfOrder);
     }
     Frame::Close
@@ -73,30 +79,32 @@ fn sealed_at(s: &[u8]) -> Frame
 }
 
 // A unit, where the running number is n. Refusals: 14, 13, 15, 11, 14.
-fn unit_at(n: u64, s: &[u8]) -> Frame
-    ensures { λ r. ⌜ r ≡ frameOf (unitTests kind10 n (now (s .entry))) (Frame.Unit (fieldLength (afterHeader kind10 (now (s .entry))))) ⌝ }
+fn unit_at(kind: Kind, n: u64, s: &[u8]) -> Frame
+    ensures { λ r. ⌜ r ≡ frameOf (unitTests (kindOf kind) n (now (s .entry)))
+        (Frame.Unit (fieldLength (afterHeader (kindOf kind) (now (s .entry))))) ⌝ }
 {
-    if !fields::field::has(0x10, 6, s) {
+    if !fields::field::has(kind.header_tag(), kind.header_bytes(), s) {
         return Frame::Refused(Refusal::FieldMalformed);
     }
     if 65535 <= n {
         return Frame::Refused(Refusal::TooManyUnits);
     }
-    if !is_number(n, s) {
+    if number_at(kind, s) != n {
         return Frame::Refused(Refusal::NumberOutOfOrder);
     }
-    if !is_pair(s) {
+    if !is_pair(kind, s) {
         return Frame::Refused(Refusal::LanguagesNotAllowed);
     }
-    sealed_at(&s[9..])
+    let end = kind.header_len();
+    sealed_at(&s[end..])
 }
 
 // The frame at the start of s, where the running number is n. Refusals: of a unit 14, 13, 15, 11, 14; of a close 14, 15.
-pub fn at(n: u64, s: &[u8]) -> Frame
-    ensures { λ r. ⌜ r ≡ frameAt kind10 n (now (s .entry)) ⌝ }
+pub fn at(kind: Kind, n: u64, s: &[u8]) -> Frame
+    ensures { λ r. ⌜ r ≡ frameAt (kindOf kind) n (now (s .entry)) ⌝ }
 {
-    if crate::opening::byte_at(s, 0) == 0x20 {
-        return close_at(n, s);
+    if crate::opening::byte_at(s, 0) == kind.close_tag() {
+        return close_at(kind, n, s);
     }
-    unit_at(n, s)
+    unit_at(kind, n, s)
 }

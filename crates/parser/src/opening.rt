@@ -3,8 +3,8 @@ use suites::refusal::Answer;
 use suites::refusal::Refusal;
 use suites::suite::Suite;
 ghost use mathlib.Core.Path.{_≡_};
-ghost use lib.ListN.{getD};
-ghost use Rattle.parser.specs.Opening.{hasOpening, openingNumber, openingSuite, openingTests};
+ghost use lib.ListN.{length, getD};
+ghost use Rattle.parser.specs.Opening.{hasOpening, openingNumber, openingSuite, openingTests, checkTests};
 
 // The byte at a place, 0 past the end.
 pub(crate) fn byte_at(s: &[u8], i: usize) -> u8
@@ -53,4 +53,14 @@ pub fn tests(s: &[u8]) -> Answer
         return Answer::Refused(Refusal::SuiteNotListed);
     }
     Answer::Done
+}
+
+// The same under a key that has to have 16 bytes. Refusals: 2; 14, 1.
+pub fn tests_under(key: &[u8], s: &[u8]) -> Answer
+    ensures { λ r. ⌜ r ≡ checkTests (length (now (key .entry))) (now (s .entry)) ⌝ }
+{
+    if key.len() != 16 {
+        return Answer::Refused(Refusal::KeyLength);
+    }
+    tests(s)
 }

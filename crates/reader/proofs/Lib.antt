@@ -4,3 +4,4 @@ pub mod Closes
 pub mod Walk
 pub mod Exact
 pub mod Turns
+pub mod BookKinds

@@ -1,58 +1,56 @@
--- One turn of the walk over the frames of a book of the base's kind.
+-- One turn of the walk over the frames of a book.
 use mathlib.Core.Path.{_≡_, ap, _∙_}
 use mathlib.Core.List.{List}
 use Prim.Native.Nat.{ℕ, suc, _+_, _-_, _≤_}
 use native.Mathlib.Omega.{arith}
 use lib.ListN.{drop}
 use lib.Seq.{drop-drop}
-use Rattle.calls.specs.Tweak.{blocksOf}
 use Rattle.suites.specs.declared.refusal.Refusal.{Refusal}
-use Rattle.suites.specs.declared.suite.Suite.{Suite}
-use Rattle.fields.specs.Kind.{kind10}
+use Rattle.fields.specs.Kind.{Kind}
+use Rattle.kinds.specs.Lengths.{frameLength, unitCalls, closeCalls}
 use Rattle.parser.specs.declared.frame.Frame.{Frame}
 use Rattle.parser.specs.declared.frame.Frame.the-variants.{Unit, Close, Refused as FrameRefused}
 use Rattle.parser.specs.Frame.{mostUnits, afterUnit, frameAt}
 use Rattle.parser.proofs.Frames.{UnitTold, unit-told}
 use Rattle.seals.specs.Seal.{unitSealTests, closeSealTests}
 use Rattle.seals.proofs.Verified.{after-unit-is}
-use Rattle.reader.specs.Check.{checkedAt, unitCalls, closeCalls, byFrame, walk}
+use Rattle.reader.specs.Check.{checkedAt, byFrame, walk}
 use Rattle.reader.specs.declared.check.CheckAnswer.{CheckAnswer}
 use Rattle.reader.specs.declared.check.CheckAnswer.the-variants.{Accepted, Refused as CheckRefused}
 use Rattle.reader.proofs.Sealed.{unit-sealed}
 use Rattle.reader.proofs.Walk.{walk-step}
 
-module _ (suite : Suite) (key : List ℕ) (number : ℕ) where
+module _ (kind : Kind) (key o : List ℕ) where
   -- a unit that passes its tests
-  pub unit-there : (n m : ℕ) (s : List ℕ) → checkedAt kind10 suite key number n s ≡ Unit m → UnitTold kind10 n m s
+  pub unit-there : (n m : ℕ) (s : List ℕ) → checkedAt kind key o n s ≡ Unit m → UnitTold kind n m s
   unfolding checkedAt
   unit-there n m s e =
-      unit-told kind10 n m s
-      (unit-sealed (λ (k : ℕ). unitSealTests kind10 suite key number n k s) (closeSealTests kind10 suite key number n s) (frameAt kind10 n s) m e .0)
+      unit-told kind n m s (unit-sealed (λ (k : ℕ). unitSealTests kind key o n k s) (closeSealTests kind key o n s) (frameAt kind n s) m e .0)
 
   -- the walk from a place of s on, where n units have been read
   abbrev pub walkFrom : ℕ → ℕ → ℕ → List ℕ → CheckAnswer
-  walkFrom place n total s = walk kind10 suite key number (suc mostUnits - n) n total (drop place s)
+  walkFrom place n total s = walk kind key o (suc mostUnits - n) n total (drop place s)
 
   module _ (place n total : ℕ) (s : List ℕ) (few : n ≤ mostUnits) where
-    turn : (f : Frame) → checkedAt kind10 suite key number n (drop place s) ≡ f
+    turn : (f : Frame) → checkedAt kind key o n (drop place s) ≡ f
         → walkFrom place n total s
-        ≡ byFrame f (λ (m : ℕ). walk kind10 suite key number (mostUnits - n) (suc n) (total + unitCalls kind10 m) (afterUnit kind10 m (drop place s))) (Accepted n (total + closeCalls kind10))
+        ≡ byFrame f (λ (m : ℕ). walk kind key o (mostUnits - n) (suc n) (total + unitCalls kind m) (afterUnit kind m (drop place s))) (Accepted n (total + closeCalls kind))
     turn f e =
         let more : suc mostUnits - n ≡ suc (mostUnits - n) = omega arith in
-        ap (λ (left : ℕ). walk kind10 suite key number left n total (drop place s)) more
-        ∙ walk-step kind10 suite key number (mostUnits - n) n total (drop place s) f e
+        ap (λ (left : ℕ). walk kind key o left n total (drop place s)) more
+        ∙ walk-step kind key o (mostUnits - n) n total (drop place s) f e
 
-    pub turn-refused : (why : Refusal) → checkedAt kind10 suite key number n (drop place s) ≡ FrameRefused why → walkFrom place n total s ≡ CheckRefused why
+    pub turn-refused : (why : Refusal) → checkedAt kind key o n (drop place s) ≡ FrameRefused why → walkFrom place n total s ≡ CheckRefused why
     turn-refused why e = turn (FrameRefused why) e
 
-    pub turn-close : checkedAt kind10 suite key number n (drop place s) ≡ Close → walkFrom place n total s ≡ Accepted n (total + 3)
+    pub turn-close : checkedAt kind key o n (drop place s) ≡ Close → walkFrom place n total s ≡ Accepted n (total + closeCalls kind)
     turn-close e = turn Close e
 
-    pub turn-unit : (m : ℕ) → checkedAt kind10 suite key number n (drop place s) ≡ Unit m
-        → walkFrom place n total s ≡ walkFrom (place + (31 + m)) (n + 1) (total + (3 + blocksOf m)) s
+    pub turn-unit : (m : ℕ) → checkedAt kind key o n (drop place s) ≡ Unit m
+        → walkFrom place n total s ≡ walkFrom (place + frameLength kind m) (n + 1) (total + unitCalls kind m) s
     turn-unit m e =
         let left : mostUnits - n ≡ suc mostUnits - (n + 1) = omega arith in
         let next : suc n ≡ n + 1 = omega arith in
-        let sum : total + unitCalls kind10 m ≡ total + (3 + blocksOf m) = omega arith in
-        let rest : afterUnit kind10 m (drop place s) ≡ drop (place + (31 + m)) s = after-unit-is (drop place s) m ∙ drop-drop (31 + m) place s in
-        turn (Unit m) e ∙ (λ i. walk kind10 suite key number (left i) (next i) (sum i) (rest i))
+        let rest : afterUnit kind m (drop place s) ≡ drop (place + frameLength kind m) s =
+        after-unit-is kind (drop place s) m ∙ drop-drop (frameLength kind m) place s in
+        turn (Unit m) e ∙ (λ i. walk kind key o (left i) (next i) (total + unitCalls kind m) (rest i))

@@ -21,14 +21,17 @@ use Rattle.format.specs.Layout.{sealedFields, unitBytes}
 use Rattle.format.specs.Sealings.{openingFields, unitHeader, unitSealing, sealedBytes}
 use Rattle.fields.specs.Unit.{BookUnit, Allowed, unitOf, detailsOf, detailsLength, inRange, unitText, sourceLength, sourceOf, targetOf, textInRange}
 use Rattle.fields.proofs.Details.{length-detailsOf}
+use Rattle.kinds.specs.Lengths.{headerBytes}
 use Rattle.format.proofs.Lengths.{length-unitSealed, range-told}
 use Rattle.fields.proofs.Texts.{length-unitText, bytes-unitText, sourceLength-unitText, inRange-unitText, length-sourceOf, length-targetOf, text-held}
 use Rattle.parser.specs.declared.frame.Frame.{Frame}
 use Rattle.parser.specs.declared.frame.Frame.the-variants.{Unit}
-use Rattle.parser.specs.Frame.{mostUnits, headerBytes, frameDetails, frameFrom, frameTo, afterHeader, frameSealed, afterUnit, frameOf, frameAt}
+use Rattle.parser.specs.Frame.{mostUnits, frameDetails, frameFrom, frameTo, afterHeader, frameSealed, afterUnit, frameOf, frameAt}
+use Rattle.parser.specs.Opening.{openingNumber, openingSuite}
 use Rattle.parser.proofs.Fields.{bytes-value, bytes-after}
 use Rattle.parser.proofs.Frames.{unitFrame, unit-here, UnitTold, unit-told}
 use Rattle.seals.specs.Seal.{unitAlong, unitOpened, unitAgrees, unitSealTests, closeSealTests}
+use Rattle.seals.proofs.Along.{unit-along, unit-along-here}
 use Rattle.seals.proofs.Seals.{sealedAt, openedAt, agreesAt, text-told, text-here}
 use Rattle.reader.specs.Check.{withSeal, checkedAt}
 use Rattle.reader.proofs.Sealed.{unit-sealed}
@@ -69,17 +72,25 @@ module _ (kind : Kind) (s : List ℕ) (b : Bytes s) where
 -- what is told of such a unit
 pub record UnitRead (kind : Kind) (suite : Suite) (key : List ℕ) (number n m : ℕ) (s : List ℕ) : Type 0 where
   pub unit : BookUnit
-  pub allowed : Allowed kind unit
+  pub allowed : Allowed kind n unit
   pub text : length (unitText (unit .source) (unit .target)) ≡ m
   pub bytes : s ≡ unitBytes kind suite key number n unit ++ afterUnit kind m s
   pub rest : Bytes (afterUnit kind m s)
   pub few : n < mostUnits
 
-module _ (kind : Kind) (suite : Suite) (key : List ℕ) (number : ℕ) (long : length key ≡ 16) (keyBytes : Bytes key) (n : ℕ) where
+-- under the opening fields o, as a writer makes them
+module _ (kind : Kind) (key o : List ℕ) (held : o ≡ openingFields (openingSuite o) (openingNumber o)) (long : length key ≡ 16) (keyBytes : Bytes key) (n : ℕ) where
+  -- what the opening fields say
+  abbrev suite : Suite
+  suite = openingSuite o
+
+  abbrev number : ℕ
+  number = openingNumber o
+
   module _ (s : List ℕ) (b : Bytes s) (m : ℕ) where
     -- a unit that is there, whose tag agrees and whose text t is in range
     module _ (told : UnitTold kind n m s) (t : List ℕ) (bt : Bytes t) (long-t : length t ≡ m)
-        (image : sealedAt suite key number n (unitAlong kind suite number n s) t ≡ frameSealed kind m s)
+        (image : sealedAt suite key number n (unitAlong kind o s) t ≡ frameSealed kind m s)
         (range : textInRange (length t) (sourceLength t) ≡ true) where
       abbrev u : BookUnit
       u = unitOf (frameFrom kind s) (frameTo kind s) (sourceOf t) (targetOf t)
@@ -87,7 +98,7 @@ module _ (kind : Kind) (suite : Suite) (key : List ℕ) (number : ℕ) (long : l
       u-text : unitText (sourceOf t) (targetOf t) ≡ t
       u-text = text-held t range bt
 
-      u-allowed : Allowed kind u
+      u-allowed : Allowed kind n u
       unfolding sourceOf targetOf
       u-allowed =
           record {
@@ -111,8 +122,12 @@ module _ (kind : Kind) (suite : Suite) (key : List ℕ) (number : ℕ) (long : l
       u-details = sym (told .details)
 
       u-sealed : sealedBytes suite key (unitSealing kind suite number n u) ≡ frameSealed kind m s
-      unfolding sealedBytes unitSealing unitAlong
-      u-sealed = (λ i. sealedAt suite key number n (openingFields suite number ++ unitHeader kind n (u-details i)) (u-text i)) ∙ image
+      unfolding sealedBytes unitSealing
+      u-sealed =
+          let along = unit-along kind o n m s b told ∙ ap (λ (f : List ℕ). f ++ unitHeader kind n (frameDetails kind s)) held in
+          (λ i. sealedAt suite key number n (openingFields suite number ++ unitHeader kind n (u-details i)) (u-text i))
+          ∙ ap (λ (h : List ℕ). sealedAt suite key number n h t) (sym along)
+          ∙ image
 
       u-read : UnitRead kind suite key number n m s
       unfolding unitBytes
@@ -130,21 +145,21 @@ module _ (kind : Kind) (suite : Suite) (key : List ℕ) (number : ℕ) (long : l
             few = told .few;
           }
 
-    pub unit-read : checkedAt kind suite key number n s ≡ Unit m → UnitRead kind suite key number n m s
+    pub unit-read : checkedAt kind key o n s ≡ Unit m → UnitRead kind suite key number n m s
     unfolding checkedAt unitSealTests unitAgrees unitOpened
     unit-read e =
-        let h : List ℕ = unitAlong kind suite number n s in
+        let h : List ℕ = unitAlong kind o s in
         let x : List ℕ = frameSealed kind m s in
         let t : List ℕ = openedAt suite key number n h x in
-        let both = unit-sealed (λ (k : ℕ). unitSealTests kind suite key number n k s) (closeSealTests kind suite key number n s) (frameAt kind n s) m e in
+        let both = unit-sealed (λ (k : ℕ). unitSealTests kind key o n k s) (closeSealTests kind key o n s) (frameAt kind n s) m e in
         let told = unit-told kind n m s (both .0) in
         let tag = unless-passed (agreesAt suite key number n h x) _ _ (both .1) in
         let range = unless-passed (textInRange m (sourceLength t)) _ _ (tag .1) in
-        let o = text-told suite key number n h long keyBytes x m (bytes-sealed kind s b m) (told .sealedLong) (tag .0) in
-        u-read told t (o .0) (o .2) (o .1) (ap (λ (k : ℕ). textInRange k (sourceLength t)) (o .2) ∙ range .0)
+        let text = text-told suite key number n h long keyBytes x m (bytes-sealed kind s b m) (told .sealedLong) (tag .0) in
+        u-read told t (text .0) (text .2) (text .1) (ap (λ (k : ℕ). textInRange k (sourceLength t)) (text .2) ∙ range .0)
 
   -- a unit that is written, and what follows it
-  module _ (wf : WellFormed kind) (fits : n < 256 ^ kind .numberBytes) (few : n < mostUnits) (u : BookUnit) (a : Allowed kind u) (rest : List ℕ) where
+  module _ (wf : WellFormed kind) (fits : n < 256 ^ kind .numberBytes) (few : n < mostUnits) (u : BookUnit) (a : Allowed kind n u) (rest : List ℕ) where
     abbrev t : List ℕ
     t = unitText (u .source) (u .target)
 
@@ -176,35 +191,49 @@ module _ (kind : Kind) (suite : Suite) (key : List ℕ) (number : ℕ) (long : l
         let lx = length-unitSealed kind suite key number n u in
         unit-here kind wf n d (length t) x rest fits few (length-detailsOf kind u (a .given)) languages (omega arith) (omega arith) (omega arith)
 
-    opened-back : (unitAgrees kind suite key number n (length t) s ≡ true) × (unitOpened kind suite key number n (length t) s ≡ t)
-    unfolding unitAgrees unitOpened unitAlong sealedBytes unitSealing
+    opened-back : (unitAgrees kind key o n (length t) s ≡ true) × (unitOpened kind key o n (length t) s ≡ t)
+    unfolding unitAgrees unitOpened sealedBytes unitSealing
     opened-back =
-        let h : List ℕ → List ℕ = λ e. openingFields suite number ++ unitHeader kind n e in
-        let o = text-here suite key number n (h d) long keyBytes t (bytes-unitText (u .source) (u .target) (a .given .sourceBytes) (a .given .targetBytes)) in (
-          (λ i. agreesAt suite key number n (h (read-back .1 i)) (read-back .2 i)) ∙ o .0,
-          (λ i. openedAt suite key number n (h (read-back .1 i)) (read-back .2 i)) ∙ o .1,
+        let h : List ℕ = openingFields suite number ++ unitHeader kind n d in
+        let along = unit-along-here kind o n d (sealedFields (length t) x ++ rest) (length-detailsOf kind u (a .given)) ∙ ap (λ (f : List ℕ). f ++ unitHeader kind n d) held in
+        let back = text-here suite key number n h long keyBytes t (bytes-unitText (u .source) (u .target) (a .given .sourceBytes) (a .given .targetBytes)) in (
+          (λ i. agreesAt suite key number n (along i) (read-back .2 i)) ∙ back .0,
+          (λ i. openedAt suite key number n (along i) (read-back .2 i)) ∙ back .1,
         )
 
-    in-range : textInRange (length t) (sourceLength (unitOpened kind suite key number n (length t) s)) ≡ true
+    in-range : textInRange (length t) (sourceLength (unitOpened kind key o n (length t) s)) ≡ true
     in-range =
         let small : length (u .source) < 65536 = omega (arith, range-told (length (u .source)) (length (u .target)) (a .range)) in
         ap (textInRange (length t)) (ap sourceLength (opened-back .1) ∙ sourceLength-unitText (u .source) (u .target) small)
         ∙ inRange-unitText (u .source) (u .target)
         ∙ a .range
 
-    outcome : unitSealTests kind suite key number n (length t) s ≡ Done
+    outcome : unitSealTests kind key o n (length t) s ≡ Done
     unfolding unitSealTests
     outcome = unless-passes _ _ _ (opened-back .0) (unless-passes _ _ _ in-range refl)
 
-    pub unit-written : (checkedAt kind suite key number n (unitBytes kind suite key number n u ++ rest) ≡ Unit (length t))
+    pub unit-written : (checkedAt kind key o n (unitBytes kind suite key number n u ++ rest) ≡ Unit (length t))
         × (afterUnit kind (length t) (unitBytes kind suite key number n u ++ rest) ≡ rest)
     unfolding checkedAt
     unit-written = (
-      ap (checkedAt kind suite key number n) s-is
-          ∙ ap (λ (f : Frame). withSeal f (λ (k : ℕ). unitSealTests kind suite key number n k s) (closeSealTests kind suite key number n s)) (read-back .0)
+      ap (checkedAt kind key o n) s-is
+          ∙ ap (λ (f : Frame). withSeal f (λ (k : ℕ). unitSealTests kind key o n k s) (closeSealTests kind key o n s)) (read-back .0)
           ∙ ap (λ (o : Answer). frameOf o (Unit (length t))) outcome,
       ap (afterUnit kind (length t)) s-is ∙ read-back .3,
     )
 
-    pub unit-opened : unitOpened kind suite key number n (length t) (unitBytes kind suite key number n u ++ rest) ≡ t
-    unit-opened = ap (unitOpened kind suite key number n (length t)) s-is ∙ opened-back .1
+    pub unit-opened : unitOpened kind key o n (length t) (unitBytes kind suite key number n u ++ rest) ≡ t
+    unit-opened = ap (unitOpened kind key o n (length t)) s-is ∙ opened-back .1
+
+    -- and the codes that stand there
+    pub unit-codes : (frameFrom kind (unitBytes kind suite key number n u ++ rest) ≡ u .from) × (frameTo kind (unitBytes kind suite key number n u ++ rest) ≡ u .to)
+    unfolding frameFrom frameTo detailsOf
+    unit-codes =
+        let k = kind .codeBytes in
+        let g = a .given in
+        let details : frameDetails kind (unitBytes kind suite key number n u ++ rest) ≡ u .from ++ u .to = ap (frameDetails kind) s-is ∙ read-back .1 in (
+          ap (take k) details ∙ take-at (u .from) (u .to) k (g .fromLong),
+          ap (λ (l : List ℕ). take k (drop k l)) details
+              ∙ ap (take k) (drop-at (u .from) (u .to) k (g .fromLong))
+              ∙ take-all k (u .to) (le-of-eq (g .toLong)),
+        )

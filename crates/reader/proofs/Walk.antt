@@ -8,7 +8,7 @@ use lib.ListN.{length, length-append}
 use Rattle.bits.specs.Bytes.{Bytes}
 use Rattle.calls.specs.Tweak.{blocksOf}
 use Rattle.suites.specs.declared.suite.Suite.{Suite}
-use Rattle.fields.specs.Each.{Each, none, more}
+use Rattle.fields.specs.Each.{EachFrom, noneFrom, moreFrom}
 use Rattle.fields.specs.Kind.{Kind, WellFormed}
 use Rattle.format.specs.Layout.{unitBytes, closeBytes, unitsBytes}
 use Rattle.format.specs.Sealings.{Sealing, openingFields, unitHeader, closeHeader, unitSealing, closeSealing, unitSealings, callTotal}
@@ -17,8 +17,10 @@ use Rattle.fields.proofs.Details.{length-detailsOf}
 use Rattle.format.proofs.Lengths.{length-openingFields, length-unitHeader, length-closeHeader}
 use Rattle.parser.specs.declared.frame.Frame.{Frame}
 use Rattle.parser.specs.declared.frame.Frame.the-variants.{Unit, Close, Refused as FrameRefused}
-use Rattle.parser.specs.Frame.{mostUnits, headerBytes, afterUnit}
-use Rattle.reader.specs.Check.{checkedAt, unitCalls, closeCalls, byFrame, walk}
+use Rattle.kinds.specs.Lengths.{headerLength, closeHeaderLength, unitCalls, closeCalls}
+use Rattle.parser.specs.Frame.{mostUnits, afterUnit}
+use Rattle.parser.specs.Opening.{openingNumber, openingSuite}
+use Rattle.reader.specs.Check.{checkedAt, byFrame, walk}
 use Rattle.reader.specs.declared.check.CheckAnswer.{CheckAnswer}
 use Rattle.reader.specs.declared.check.CheckAnswer.the-variants.{Accepted}
 use Rattle.reader.proofs.Units.{UnitRead, unit-read, unit-written}
@@ -36,17 +38,17 @@ module _ (kind : Kind) (suite : Suite) (number : ℕ) where
   unfolding unitSealings callTotal closeSealing
   calls-none n =
       let h = closeHeader kind (n + 0) in
-      let long : length (openingFields suite number ++ h) ≡ 19 + kind .numberBytes =
+      let long : length (openingFields suite number ++ h) ≡ 16 + closeHeaderLength kind =
       length-append (openingFields suite number) h ∙ omega (arith, length-openingFields suite number, length-closeHeader kind (n + 0)) in
       ap (λ (a : ℕ). blocksOf a + blocksOf 0 + 1 + 0) long ∙ add-zero (closeCalls kind)
 
-  calls-more : (n : ℕ) (u : BookUnit) (us : List BookUnit) → Allowed kind u
+  calls-more : (n : ℕ) (u : BookUnit) (us : List BookUnit) → Allowed kind n u
       → callTotal (sealingsFrom n (u ∷ us)) ≡ unitCalls kind (length (unitText (u .source) (u .target))) + callTotal (sealingsFrom (suc n) us)
   unfolding unitSealings callTotal unitSealing
   calls-more n u us a =
       let d = detailsOf kind u in
       let m = length (unitText (u .source) (u .target)) in
-      let long : length (openingFields suite number ++ unitHeader kind n d) ≡ 19 + headerBytes kind =
+      let long : length (openingFields suite number ++ unitHeader kind n d) ≡ 16 + headerLength kind =
       length-append (openingFields suite number) (unitHeader kind n d)
       ∙ omega (arith, length-openingFields suite number, length-unitHeader kind n d, length-detailsOf kind u (a .given)) in
       λ i. blocksOf (long i) + blocksOf m + 1 + callTotal (unitSealings kind suite number (suc n) us ++ closeSealing kind suite number (next n u us i) ∷ [])
@@ -71,7 +73,7 @@ module _ (kind : Kind) (suite : Suite) (key : List ℕ) (number : ℕ) where
   -- what is told of a walk that accepts with the count c and the total t
   pub record Walked (n total : ℕ) (s : List ℕ) (c t : ℕ) : Type 0 where
     pub units : List BookUnit
-    pub allowed : Each (Allowed kind) units
+    pub allowed : EachFrom (Allowed kind) n units
     pub bytes : s ≡ bytesFrom n units
     pub count : c ≡ n + length units
     pub calls : t ≡ total + callTotal (sealingsFrom kind suite number n units)
@@ -85,7 +87,7 @@ module _ (kind : Kind) (suite : Suite) (key : List ℕ) (number : ℕ) where
       let sum : total + closeCalls kind ≡ t = cc in
       record {
         units = [];
-        allowed = none;
+        allowed = noneFrom;
         bytes = bytes ∙ sym (bytes-none n);
         count = omega arith;
         calls = sym sum ∙ ap (λ (k : ℕ). total + k) (sym (calls-none kind suite number n));
@@ -101,7 +103,7 @@ module _ (kind : Kind) (suite : Suite) (key : List ℕ) (number : ℕ) where
       let one : unitCalls kind m ≡ unitCalls kind (length (unitText (u .source) (u .target))) = ap (unitCalls kind) (sym (r .text)) in
       record {
         units = u ∷ us;
-        allowed = more (r .allowed) (w .allowed);
+        allowed = moreFrom (r .allowed) (w .allowed);
         bytes = r .bytes ∙ ap (λ (x : List ℕ). unitBytes kind suite key number n u ++ x) (w .bytes) ∙ sym (bytes-more n u us);
         count = w .count ∙ sym (next n u us);
         calls = w .calls ∙ omega (arith, one, calls-more kind suite number n u us (r .allowed));
@@ -109,52 +111,58 @@ module _ (kind : Kind) (suite : Suite) (key : List ℕ) (number : ℕ) where
         few = w .few;
       }
 
-  -- by the frame at the place
-  pub walk-step : (left n total : ℕ) (s : List ℕ) (f : Frame) → checkedAt kind suite key number n s ≡ f
-      → walk kind suite key number (suc left) n total s
-      ≡ byFrame f (λ (m : ℕ). walk kind suite key number left (suc n) (total + unitCalls kind m) (afterUnit kind m s)) (Accepted n (total + closeCalls kind))
+-- by the frame at the place
+pub walk-step : (kind : Kind) (key o : List ℕ) (left n total : ℕ) (s : List ℕ) (f : Frame) → checkedAt kind key o n s ≡ f
+    → walk kind key o (suc left) n total s
+    ≡ byFrame f (λ (m : ℕ). walk kind key o left (suc n) (total + unitCalls kind m) (afterUnit kind m s)) (Accepted n (total + closeCalls kind))
+unfolding walk
+walk-step kind key o left n total s f e =
+    λ i. byFrame (e i) (λ (m : ℕ). walk kind key o left (suc n) (total + unitCalls kind m) (afterUnit kind m s)) (Accepted n (total + closeCalls kind))
+
+-- under the opening fields o, as a writer makes them
+module _ (kind : Kind) (key o : List ℕ) (held : o ≡ openingFields (openingSuite o) (openingNumber o)) (long : length key ≡ 16) (keyBytes : Bytes key) where
+  abbrev suite : Suite
+  suite = openingSuite o
+
+  abbrev number : ℕ
+  number = openingNumber o
+
+  walked-frame : (n total : ℕ) (s : List ℕ) (c t : ℕ) (rest : ℕ → CheckAnswer) (f : Frame) → checkedAt kind key o n s ≡ f → n ≤ mostUnits → Bytes s
+      → ((m : ℕ) → n < mostUnits → Bytes (afterUnit kind m s) → rest m ≡ Accepted c t → Walked kind suite key number (suc n) (total + unitCalls kind m) (afterUnit kind m s) c t)
+      → byFrame f rest (Accepted n (total + closeCalls kind)) ≡ Accepted c t → Walked kind suite key number n total s c t
+  walked-frame n total s c t rest (Unit m) q few b w e =
+      let r = unit-read kind key o held long keyBytes n s b m q in
+      walked-unit kind suite key number n total m s c t r (w m (r .few) (r .rest) e)
+  walked-frame n total s c t rest Close q few b w e =
+      let r = close-read kind key o held long keyBytes n s b q in
+      walked-close kind suite key number n total s c t few (r .0) (r .1) e
+  walked-frame n total s c t rest (FrameRefused why) q few b w e = let z : _≡_ {A = ℕ} 0 1 = cc in absurd (omega arith)
+
+  pub walk-told : (left n total : ℕ) (s : List ℕ) (c t : ℕ) → n ≤ mostUnits → Bytes s → walk kind key o left n total s ≡ Accepted c t
+      → Walked kind suite key number n total s c t
   unfolding walk
-  walk-step left n total s f e =
-      λ i.
-      byFrame (e i) (λ (m : ℕ). walk kind suite key number left (suc n) (total + unitCalls kind m) (afterUnit kind m s)) (Accepted n (total + closeCalls kind))
+  walk-told zero n total s c t few b e = let z : _≡_ {A = ℕ} 0 1 = cc in absurd (omega arith)
+  walk-told (suc left) n total s c t few b e =
+      walked-frame n total s c t (λ (m : ℕ). walk kind key o left (suc n) (total + unitCalls kind m) (afterUnit kind m s))
+      (checkedAt kind key o n s) refl few b
+      (λ m less after q. walk-told left (suc n) (total + unitCalls kind m) (afterUnit kind m s) c t less after q) e
 
-  module _ (long : length key ≡ 16) (keyBytes : Bytes key) where
-    walked-frame : (n total : ℕ) (s : List ℕ) (c t : ℕ) (rest : ℕ → CheckAnswer) (f : Frame) → checkedAt kind suite key number n s ≡ f → n ≤ mostUnits → Bytes s
-        → ((m : ℕ) → n < mostUnits → Bytes (afterUnit kind m s) → rest m ≡ Accepted c t → Walked (suc n) (total + unitCalls kind m) (afterUnit kind m s) c t)
-        → byFrame f rest (Accepted n (total + closeCalls kind)) ≡ Accepted c t → Walked n total s c t
-    walked-frame n total s c t rest (Unit m) q few b w e =
-        let r = unit-read kind suite key number long keyBytes n s b m q in
-        walked-unit n total m s c t r (w m (r .few) (r .rest) e)
-    walked-frame n total s c t rest Close q few b w e =
-        let r = close-read kind suite key number long keyBytes n s b q in
-        walked-close n total s c t few (r .0) (r .1) e
-    walked-frame n total s c t rest (FrameRefused why) q few b w e = let z : _≡_ {A = ℕ} 0 1 = cc in absurd (omega arith)
-
-    pub walk-told : (left n total : ℕ) (s : List ℕ) (c t : ℕ) → n ≤ mostUnits → Bytes s → walk kind suite key number left n total s ≡ Accepted c t
-        → Walked n total s c t
-    unfolding walk
-    walk-told zero n total s c t few b e = let z : _≡_ {A = ℕ} 0 1 = cc in absurd (omega arith)
-    walk-told (suc left) n total s c t few b e =
-        walked-frame n total s c t (λ (m : ℕ). walk kind suite key number left (suc n) (total + unitCalls kind m) (afterUnit kind m s))
-        (checkedAt kind suite key number n s) refl few b
-        (λ m less after q. walk-told left (suc n) (total + unitCalls kind m) (afterUnit kind m s) c t less after q) e
-
-    -- every list of units, then the close, is walked through
-    pub walk-here : WellFormed kind → (left n total : ℕ) (us : List BookUnit) → Each (Allowed kind) us → length us < left
-        → n + length us ≤ mostUnits → n + length us < 256 ^ kind .numberBytes
-        → walk kind suite key number left n total (bytesFrom n us) ≡ Accepted (n + length us) (total + callTotal (sealingsFrom kind suite number n us))
-    walk-here wf zero n total us each less few fits = absurd (omega arith)
-    walk-here wf (suc left) n total [] none less few fits =
-        ap (walk kind suite key number (suc left) n total) (bytes-none n)
-        ∙ walk-step left n total (closeBytes kind suite key number n) Close (close-written kind suite key number long keyBytes n wf (omega arith))
-        ∙ (λ i. Accepted (sym (add-zero n) i) (total + sym (calls-none kind suite number n) i))
-    walk-here wf (suc left) n total (u ∷ us) (more a each) less few fits =
-        let m : ℕ = length (unitText (u .source) (u .target)) in
-        let w = unit-written kind suite key number long keyBytes n wf (omega arith) (omega arith) u a (bytesFrom (suc n) us) in
-        let sum : total + unitCalls kind m + callTotal (sealingsFrom kind suite number (suc n) us) ≡ total + callTotal (sealingsFrom kind suite number n (u ∷ us)) =
-        omega (arith, calls-more kind suite number n u us a) in
-        ap (walk kind suite key number (suc left) n total) (bytes-more n u us)
-        ∙ walk-step left n total (unitBytes kind suite key number n u ++ bytesFrom (suc n) us) (Unit m) (w .0)
-        ∙ ap (walk kind suite key number left (suc n) (total + unitCalls kind m)) (w .1)
-        ∙ walk-here wf left (suc n) (total + unitCalls kind m) us each (omega arith) (omega arith) (omega arith)
-        ∙ (λ i. Accepted (sym (next n u us) i) (sum i))
+  -- every list of units, then the close, is walked through
+  pub walk-here : WellFormed kind → (left n total : ℕ) (us : List BookUnit) → EachFrom (Allowed kind) n us → length us < left
+      → n + length us ≤ mostUnits → n + length us < 256 ^ kind .numberBytes
+      → walk kind key o left n total (bytesFrom kind suite key number n us) ≡ Accepted (n + length us) (total + callTotal (sealingsFrom kind suite number n us))
+  walk-here wf zero n total us each less few fits = absurd (omega arith)
+  walk-here wf (suc left) n total [] noneFrom less few fits =
+      ap (walk kind key o (suc left) n total) (bytes-none kind suite key number n)
+      ∙ walk-step kind key o left n total (closeBytes kind suite key number n) Close (close-written kind key o held long keyBytes n wf (omega arith))
+      ∙ (λ i. Accepted (sym (add-zero n) i) (total + sym (calls-none kind suite number n) i))
+  walk-here wf (suc left) n total (u ∷ us) (moreFrom a each) less few fits =
+      let m : ℕ = length (unitText (u .source) (u .target)) in
+      let w = unit-written kind key o held long keyBytes n wf (omega arith) (omega arith) u a (bytesFrom kind suite key number (suc n) us) in
+      let sum : total + unitCalls kind m + callTotal (sealingsFrom kind suite number (suc n) us) ≡ total + callTotal (sealingsFrom kind suite number n (u ∷ us)) =
+      omega (arith, calls-more kind suite number n u us a) in
+      ap (walk kind key o (suc left) n total) (bytes-more kind suite key number n u us)
+      ∙ walk-step kind key o left n total (unitBytes kind suite key number n u ++ bytesFrom kind suite key number (suc n) us) (Unit m) (w .0)
+      ∙ ap (walk kind key o left (suc n) (total + unitCalls kind m)) (w .1)
+      ∙ walk-here wf left (suc n) (total + unitCalls kind m) us each (omega arith) (omega arith) (omega arith)
+      ∙ (λ i. Accepted (sym (next n u us) i) (sum i))

@@ -1,5 +1,5 @@
--- The reader's half of demand 3, as a statement: check accepts exactly the books of the layout. proofs/Exact proves it for every kind that
--- can be read.
+-- The reader's half of demand 3, as a statement: check accepts, of a kind, exactly the books of the layout. proofs/Exact proves it for every
+-- kind that can be read.
 use mathlib.Core.Path.{_≡_}
 use mathlib.Core.List.{List, [], _∷_, _++_}
 use Prim.Native.Nat.{ℕ}
@@ -10,7 +10,7 @@ use Rattle.fields.specs.Kind.{Kind}
 use Rattle.format.specs.Layout.{bookBytes, Bookable}
 use Rattle.format.specs.Sealings.{Sealing, unitSealings, closeSealing, callTotal}
 use Rattle.fields.specs.Unit.{BookUnit}
-use Rattle.reader.specs.Check.{checkAnswer}
+use Rattle.reader.specs.Check.{checkAnswerOf}
 use Rattle.reader.specs.declared.check.CheckAnswer.the-variants.{Accepted}
 
 -- the sealings of a whole book: its units', then its close's
@@ -29,6 +29,6 @@ pub record IsBook (kind : Kind) (key s : List ℕ) (n t : ℕ) : Type 0 where
 
 pub record ReaderHalf (kind : Kind) : Type 0 where
   -- what is accepted is a book, with the count and the call total that are returned
-  pub accepted : (key s : List ℕ) (n t : ℕ) → Bytes key → Bytes s → checkAnswer kind key s ≡ Accepted n t → IsBook kind key s n t
+  pub accepted : (key s : List ℕ) (n t : ℕ) → Bytes key → Bytes s → checkAnswerOf kind key s ≡ Accepted n t → IsBook kind key s n t
   -- every book is accepted
-  pub accepts : (key s : List ℕ) (n t : ℕ) → IsBook kind key s n t → checkAnswer kind key s ≡ Accepted n t
+  pub accepts : (key s : List ℕ) (n t : ℕ) → IsBook kind key s n t → checkAnswerOf kind key s ≡ Accepted n t

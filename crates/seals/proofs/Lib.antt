@@ -1,2 +1,4 @@
 pub mod Seals
+pub mod Along
+pub mod Tested
 pub mod Verified

@@ -1,1 +1,2 @@
 pub mod Seal
+pub mod Parts

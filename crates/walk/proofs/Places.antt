@@ -7,9 +7,12 @@ use native.Mathlib.Omega.{arith}
 use borrow.Author.Tests.{leb-true, leb-false}
 use lib.Dec.{leb}
 use lib.ListN.{length, drop, length-drop, drop-of-length-le}
+use lib.Seq.{drop-drop}
 use Rattle.suites.specs.declared.refusal.Answer.{Answer}
 use Rattle.suites.specs.declared.refusal.Answer.the-variants.{Done, Refused}
-use Rattle.fields.specs.Kind.{Kind, kind10}
+use Rattle.fields.specs.Kind.{Kind}
+use Rattle.kinds.specs.Kind.{kindOf, bookKind}
+use Rattle.kinds.specs.Lengths.{frameLength}
 use Rattle.parser.specs.declared.frame.Frame.{Frame}
 use Rattle.parser.specs.declared.frame.Frame.the-variants.{Unit, Close, Refused as FrameRefused}
 use Rattle.parser.specs.Frame.{frameAt}
@@ -17,8 +20,9 @@ use Rattle.parser.specs.Opening.{afterOpening, openingTests}
 use Rattle.parser.proofs.Frames.{unit-told}
 use Rattle.parser.proofs.Openings.{opening-passed}
 use Rattle.walk.specs.declared.Place.{Place}
-use Rattle.walk.specs.Walk.{frameLength, nextPlace, pastUnit, walkOn, walkTo}
-use Rattle.walk.specs.Ciphertext.{partAt, partFrom, partUnless, ciphertextPlace}
+use Rattle.walk.specs.Walk.{nextPlace, pastUnit, walkOn, walkTo}
+use Rattle.walk.specs.Clear.{clearOf, clearUnless, placedClearOf, unitClearOf, unitClear}
+use Rattle.walk.specs.Ciphertext.{partAt, partFrom, partUnless, ciphertextPlaceOf, ciphertextPlace}
 
 -- from a place past the end on, as from the end, nothing stands
 pub drop-least : (at : ℕ) (s : List ℕ) → drop (min at (length s)) s ≡ drop at s
@@ -67,13 +71,14 @@ module _ (kind : Kind) (s : List ℕ) where
   part-within a n at (FrameRefused why) e h = omega arith
 
 -- the ciphertext of unit k stands within the book
-pub ciphertext-within : (kind : Kind) (k : ℕ) (s : List ℕ) → ciphertextPlace kind k s .at + ciphertextPlace kind k s .len ≤ length s
-unfolding ciphertextPlace partFrom afterOpening
-ciphertext-within kind k s = by (openingTests s) refl
+pub ciphertext-within : (k : ℕ) (s : List ℕ) → ciphertextPlace k s .at + ciphertextPlace k s .len ≤ length s
+unfolding ciphertextPlace ciphertextPlaceOf partFrom afterOpening
+ciphertext-within k s = by (openingTests s) refl
   where
     by : (a : Answer) → openingTests s ≡ a
-        → let part = partUnless a (partFrom kind (walkTo kind k (afterOpening s)) s) in part .at + part .len ≤ length s
+        → let part = partUnless a (partFrom (kindOf (bookKind s)) (walkTo (kindOf (bookKind s)) k (afterOpening s)) s) in part .at + part .len ≤ length s
     by Done e =
+        let kind = kindOf (bookKind s) in
         let p = walkTo kind k (drop 16 s) in
         omega (
           arith,
@@ -84,34 +89,58 @@ ciphertext-within kind k s = by (openingTests s) refl
         )
     by (Refused why) e = omega arith
 
--- the turns of the loop over a book of the base's kind
+-- it is among what is said in the clear, and empty where nothing is
+clear-frame : (kind : Kind) (at : ℕ) (s : List ℕ) (f : Frame) → clearOf kind at s f .ciphertext ≡ partAt kind at f
+clear-frame kind at s (Unit m) = refl
+clear-frame kind at s Close = refl
+clear-frame kind at s (FrameRefused why) = refl
+
+pub clear-part-of : (kind : Kind) (k : ℕ) (s : List ℕ) → unitClearOf kind k s .ciphertext ≡ ciphertextPlaceOf kind k s
+unfolding unitClearOf placedClearOf ciphertextPlaceOf partFrom afterOpening
+clear-part-of kind k s = by (openingTests s)
+  where
+    by : (a : Answer)
+        → let p = walkTo kind k (drop 16 s) in
+        clearUnless a (clearOf kind (16 + p .at) (drop (16 + p .at) s) (frameAt kind (p .number) (drop (16 + p .at) s))) .ciphertext
+        ≡ partUnless a (partAt kind (16 + p .at) (frameAt kind (p .number) (drop (p .at) (drop 16 s))))
+    by Done =
+        let p = walkTo kind k (drop 16 s) in
+        clear-frame kind (16 + p .at) (drop (16 + p .at) s) (frameAt kind (p .number) (drop (16 + p .at) s))
+        ∙ ap (λ (r : List ℕ). partAt kind (16 + p .at) (frameAt kind (p .number) r)) (sym (drop-drop (p .at) 16 s))
+    by (Refused why) = refl
+
+pub clear-part : (k : ℕ) (s : List ℕ) → unitClear k s .ciphertext ≡ ciphertextPlace k s
+unfolding unitClear ciphertextPlace
+clear-part k s = clear-part-of (kindOf (bookKind s)) k s
+
+-- the turns of the loop
 
 abbrev pub placeOf : ℕ → ℕ → Place
 placeOf number at = record { number = number; at = at }
 
--- the walk to unit k from a place of s on, where number units stand before it
-abbrev pub walkFrom : ℕ → ℕ → ℕ → List ℕ → Place
-walkFrom k number at s = walkOn kind10 (k - number) (placeOf number at) s
+module _ (kind : Kind) (k : ℕ) where
+  -- the walk to unit k from a place of s on, where number units stand before it
+  abbrev pub walkFrom : ℕ → ℕ → List ℕ → Place
+  walkFrom number at s = walkOn kind (k - number) (placeOf number at) s
 
-pub turn-first : (k : ℕ) (s : List ℕ) → walkFrom k 0 0 s ≡ walkTo kind10 k s
-unfolding walkTo
-turn-first k s =
-    let all : k - 0 ≡ k = omega arith in
-    ap (λ (left : ℕ). walkOn kind10 left (placeOf 0 0) s) all
+  pub turn-first : (s : List ℕ) → walkFrom 0 0 s ≡ walkTo kind k s
+  unfolding walkTo
+  turn-first s =
+      let all : k - 0 ≡ k = omega arith in
+      ap (λ (left : ℕ). walkOn kind left (placeOf 0 0) s) all
 
-module _ (k number at : ℕ) (s : List ℕ) where
-  pub turn-last : k ≤ number → walkFrom k number at s ≡ placeOf number at
-  unfolding walkOn
-  turn-last h =
-      let none : k - number ≡ 0 = omega arith in
-      ap (λ (left : ℕ). walkOn kind10 left (placeOf number at) s) none
+  module _ (number at : ℕ) (s : List ℕ) where
+    pub turn-last : k ≤ number → walkFrom number at s ≡ placeOf number at
+    unfolding walkOn
+    turn-last h =
+        let none : k - number ≡ 0 = omega arith in
+        ap (λ (left : ℕ). walkOn kind left (placeOf number at) s) none
 
-  pub turn : number < k → (f : Frame) → frameAt kind10 number (drop at s) ≡ f
-      → walkFrom k number at s ≡ pastUnit f (λ (m : ℕ). walkFrom k (number + 1) (at + (31 + m)) s) (placeOf number at)
-  turn more f e =
-      let left : k - number ≡ suc (k - (number + 1)) = omega arith in
-      let next : suc number ≡ number + 1 = omega arith in
-      let sum : (m : ℕ) → at + frameLength kind10 m ≡ at + (31 + m) = λ m. omega arith in
-      ap (λ (j : ℕ). walkOn kind10 j (placeOf number at) s) left
-      ∙ walk-step kind10 s (k - (number + 1)) (placeOf number at) f e
-      ∙ (λ i. pastUnit f (λ (m : ℕ). walkOn kind10 (k - (number + 1)) (placeOf (next i) (sum m i)) s) (placeOf number at))
+    pub turn : number < k → (f : Frame) → frameAt kind number (drop at s) ≡ f
+        → walkFrom number at s ≡ pastUnit f (λ (m : ℕ). walkFrom (number + 1) (at + frameLength kind m) s) (placeOf number at)
+    turn more f e =
+        let left : k - number ≡ suc (k - (number + 1)) = omega arith in
+        let next : suc number ≡ number + 1 = omega arith in
+        ap (λ (j : ℕ). walkOn kind j (placeOf number at) s) left
+        ∙ walk-step kind s (k - (number + 1)) (placeOf number at) f e
+        ∙ (λ i. pastUnit f (λ (m : ℕ). walkOn kind (k - (number + 1)) (placeOf (next i) (at + frameLength kind m)) s) (placeOf number at))

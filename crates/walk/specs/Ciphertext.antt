@@ -8,7 +8,9 @@ use Rattle.suites.specs.declared.refusal.Answer.the-variants.{Done, Refused}
 use Rattle.fields.specs.Kind.{Kind}
 use Rattle.parser.specs.declared.frame.Frame.{Frame}
 use Rattle.parser.specs.declared.frame.Frame.the-variants.{Unit, Close, Refused as FrameRefused}
-use Rattle.parser.specs.Frame.{headerBytes, frameAt}
+use Rattle.kinds.specs.Kind.{kindOf, bookKind}
+use Rattle.kinds.specs.Lengths.{ciphertextAt}
+use Rattle.parser.specs.Frame.{frameAt}
 use Rattle.parser.specs.Opening.{afterOpening, openingTests}
 use Rattle.walk.specs.declared.Place.{Place}
 use Rattle.walk.specs.declared.ciphertext.Part.{Part}
@@ -17,9 +19,9 @@ use Rattle.walk.specs.Walk.{walkTo}
 abbrev pub emptyPart : Part
 emptyPart = record { at = 0; len = 0 }
 
--- of a frame that begins at a place: the value of a unit's field 11, which 3 bytes stand before, behind its field 10
+-- of a frame that begins at a place: the value of a unit's field 11
 abbrev pub partAt : Kind → ℕ → Frame → Part
-partAt kind at (Unit m) = record { at = at + (3 + headerBytes kind + 3); len = m }
+partAt kind at (Unit m) = record { at = at + ciphertextAt kind; len = m }
 partAt kind at Close = emptyPart
 partAt kind at (FrameRefused why) = emptyPart
 
@@ -31,10 +33,14 @@ abbrev pub partUnless : Answer → Part → Part
 partUnless Done part = part
 partUnless (Refused why) part = emptyPart
 
--- where the ciphertext of unit k stands in the book s
-unfoldable pub ciphertextPlace : Kind → ℕ → List ℕ → Part
-ciphertextPlace kind k s = partUnless (openingTests s) (partFrom kind (walkTo kind k (afterOpening s)) s)
+-- where the ciphertext of unit k stands in a book s of a kind
+unfoldable pub ciphertextPlaceOf : Kind → ℕ → List ℕ → Part
+ciphertextPlaceOf kind k s = partUnless (openingTests s) (partFrom kind (walkTo kind k (afterOpening s)) s)
+
+-- and in a book s, whose bytes say its kind
+unfoldable pub ciphertextPlace : ℕ → List ℕ → Part
+ciphertextPlace k s = ciphertextPlaceOf (kindOf (bookKind s)) k s
 
 -- the part of the book that stands there
-unfoldable pub ciphertextPart : Kind → ℕ → List ℕ → List ℕ
-ciphertextPart kind k s = take (ciphertextPlace kind k s .len) (drop (ciphertextPlace kind k s .at) s)
+unfoldable pub ciphertextPart : ℕ → List ℕ → List ℕ
+ciphertextPart k s = take (ciphertextPlace k s .len) (drop (ciphertextPlace k s .at) s)

@@ -1,2 +1,3 @@
 pub mod Walk
 pub mod Ciphertext
+pub mod Clear

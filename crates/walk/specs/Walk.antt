@@ -5,14 +5,11 @@ use lib.ListN.{drop}
 use Rattle.fields.specs.Kind.{Kind}
 use Rattle.parser.specs.declared.frame.Frame.{Frame}
 use Rattle.parser.specs.declared.frame.Frame.the-variants.{Unit, Close, Refused as FrameRefused}
-use Rattle.parser.specs.Frame.{headerBytes, frameAt}
+use Rattle.kinds.specs.Lengths.{frameLength}
+use Rattle.parser.specs.Frame.{frameAt}
 use Rattle.walk.specs.declared.Place.{Place}
 
--- how many bytes a unit takes whose ciphertext has m: its fields 10, 11 and 12, of which each has 3 before its value
-abbrev pub frameLength : Kind → ℕ → ℕ
-frameLength kind m = 3 + headerBytes kind + (3 + m) + (3 + 16)
-
--- past such a unit
+-- past a unit whose ciphertext has m bytes
 abbrev pub nextPlace : Kind → ℕ → Place → Place
 nextPlace kind m p = record { number = suc (p .number); at = p .at + frameLength kind m }
 

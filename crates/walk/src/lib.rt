@@ -1,9 +1,11 @@
-// Going over a book without its seals: the walk to unit k, and the ciphertext of a unit.
+// Going over a book without its seals: the walk to unit k, what a unit's fields say in the clear, and the ciphertext of a unit.
 pub mod ciphertext;
+pub mod clear;
 
+use kinds::Kind;
 use parser::frame::Frame;
 ghost use mathlib.Core.Path.{_≡_};
-ghost use Rattle.fields.specs.Kind.{kind10};
+ghost use Rattle.kinds.specs.Kind.{kindOf};
 ghost use Rattle.walk.specs.Walk.{walkTo};
 
 // A place behind a book's opening fields, and how many units stand before it.
@@ -25,15 +27,16 @@ fn read_ahead(s: &[u8]) -> u64
 }
 
 // Where the walk to unit k ends: past the units before it, or at the first frame on the way that is no unit or is refused. The book's bytes
-// behind its opening fields are s.
-pub fn to(k: u64, s: &[u8]) -> Place
-    ensures { λ r. ⌜ r ≡ walkTo kind10 k (now (s .entry)) ⌝ }
+// behind its opening fields are s. `ahead` is 0 throughout, and is tested only so that the bytes ahead are read.
+pub fn to(kind: Kind, k: u64, s: &[u8]) -> Place
+    ensures { λ r. ⌜ r ≡ walkTo (kindOf kind) k (now (s .entry)) ⌝ }
 {
     let mut number: u64 = 0;
     let mut at: usize = 0;
-    while number < k {
+    let mut ahead: u64 = 0;
+    while (number < k) & (ahead == 0) {
         let rest = &s[at..];
-        let frame = parser::frame::at(number, rest);
+        let frame = parser::frame::at(kind, number, rest);
         match frame {
             Frame::Refused(why) => {
                 return Place { number, at };
@@ -42,8 +45,9 @@ pub fn to(k: u64, s: &[u8]) -> Place
                 return Place { number, at };
             }
             Frame::Unit(m) => {
-                number += 1 + read_ahead(rest);
-                at += 31 + m;
+                number += 1;
+                at += kind.unit_len(m);
+                ahead = read_ahead(rest);
             }
         }
     }

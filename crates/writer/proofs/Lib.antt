@@ -3,4 +3,5 @@ pub mod Order
 pub mod Put
 pub mod Few
 pub mod Handed
+pub mod Brings
 pub mod Left

@@ -22,7 +22,7 @@ use Rattle.suites.specs.Suite.{listed}
 use Rattle.limits.proofs.Passed.{unless-passed, unless-passes}
 use Rattle.fields.specs.Kind.{Kind}
 use Rattle.fields.specs.Languages.{pairAllowed}
-use Rattle.format.specs.Layout.{unitLength, closeLength}
+use Rattle.kinds.specs.Lengths.{unitLength, closeLength}
 use Rattle.fields.specs.Unit.{inRange}
 use Rattle.format.proofs.Lengths.{range-told}
 use Rattle.writer.specs.declared.Writer.{Writer}

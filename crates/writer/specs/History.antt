@@ -1,16 +1,16 @@
 -- Lists of calls on a book: "The writer takes an add or a close and is handed back as it now is." Each step is by the definitions in the
 -- contracts of `start`, `add` and `close`.
 use mathlib.Core.Path.{_≡_}
-use mathlib.Core.Bool.{Bool, true, false, _||_}
+use mathlib.Core.Bool.{Bool, true, false, _||_, cond}
 use mathlib.Core.List.{List, [], _∷_, _++_}
-use Prim.Native.Nat.{ℕ, _^_, _<_}
+use Prim.Native.Nat.{ℕ, _+_, _^_, _<_}
 use lib.ListN.{length}
 use Rattle.bits.specs.Bytes.{Bytes}
 use Rattle.suites.specs.declared.refusal.Answer.{Answer}
 use Rattle.suites.specs.declared.refusal.Answer.the-variants.{Done}
 use Rattle.suites.specs.declared.suite.Suite.{Suite}
 use Rattle.fields.specs.Kind.{Kind}
-use Rattle.format.specs.Sealings.{Sealing, unitSealing, closeSealing}
+use Rattle.format.specs.Sealings.{Sealing, closeSealing, unitSealings}
 use Rattle.fields.specs.Unit.{BookUnit, Given}
 use Rattle.writer.specs.declared.Writer.{Writer}
 use Rattle.writer.specs.Writer.{byAnswer, startOutcome, startWriter, startBuffer, addOutcome, addWriter, addBuffer, closeOutcome, closeWriter, closeBuffer}
@@ -64,10 +64,11 @@ hasClose kind [] s = false
 hasClose kind (c ∷ cs) s = byAnswer (outcome kind c s) (isClose c) false || hasClose kind cs (step kind c s)
 
 -- "The cipher calls of an accepted add or close are the call list of its sealing. That sealing is demand 2's, under the start's suite and
--- key with the nonce and header above": the sealings of the accepted calls
+-- key with the nonce and header above": the sealings of the accepted calls, first of a call's units, then of a close
 abbrev pub sealingsOf : Kind → Call → Writer → List Sealing
-sealingsOf kind (add u) w = unitSealing kind (w .suite) (w .number) (w .count) u ∷ []
-sealingsOf kind close w = closeSealing kind (w .suite) (w .number) (w .count) ∷ []
+sealingsOf kind c w =
+    unitSealings kind (w .suite) (w .number) (w .count) (unitsOf c)
+    ++ cond (isClose c) (closeSealing kind (w .suite) (w .number) (w .count + length (unitsOf c)) ∷ []) []
 
 unfoldable pub sealings : Kind → List Call → State → List Sealing
 sealings kind [] s = []

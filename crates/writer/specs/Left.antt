@@ -5,7 +5,7 @@ use mathlib.Core.Bool.{Bool, true, cond}
 use mathlib.Core.List.{List, [], _∷_, _++_, map, List·Nodup}
 use Prim.Native.Nat.{ℕ, _≤_}
 use lib.ListN.{length, take, drop}
-use Rattle.fields.specs.Each.{Each}
+use Rattle.fields.specs.Each.{Each, EachFrom}
 use Rattle.fields.specs.Kind.{Kind, WellFormed}
 use Rattle.format.specs.Layout.{unitsBytes, closeBytes, bookLength, Bookable}
 use Rattle.format.specs.Sealings.{Sealing, openingFields, unitSealings, closeSealing, cipherCalls, callTotal}
@@ -58,5 +58,5 @@ pub record WriterHalf (kind : Kind) : Type 0 where
       → Leaves kind s (units kind cs (started s)) (hasClose kind cs (started s)) (sealings kind cs (started s)) (run kind cs (started s))
   -- every list of allowed units that is not too long, and for which the buffer has room, can be written: each add is accepted, and the
   -- close
-  pub writes : (s : Start) (us : List BookUnit) → Each (Allowed kind) us → length us ≤ kind .unitLimit → bookLength kind us ≤ length (s .buffer)
+  pub writes : (s : Start) (us : List BookUnit) → EachFrom (Allowed kind) 0 us → length us ≤ kind .unitLimit → bookLength kind us ≤ length (s .buffer)
       → (units kind (writing us) (started s) ≡ us) × (hasClose kind (writing us) (started s) ≡ true)

@@ -23,7 +23,8 @@ use Rattle.suites.specs.Suite.{listed}
 use Rattle.limits.specs.Tests.{unless}
 use Rattle.fields.specs.Kind.{Kind}
 use Rattle.fields.specs.Languages.{pairAllowed}
-use Rattle.format.specs.Layout.{unitBytes, closeBytes, unitLength, closeLength}
+use Rattle.kinds.specs.Lengths.{unitLength, closeLength}
+use Rattle.format.specs.Layout.{unitBytes, closeBytes}
 use Rattle.format.specs.Sealings.{openingFields, unitSealing, closeSealing, sealingCalls}
 use Rattle.fields.specs.Unit.{BookUnit, inRange}
 use Rattle.writer.specs.declared.Writer.{Writer}

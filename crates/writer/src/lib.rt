@@ -1,4 +1,5 @@
 // The writer of a book: start, add and close.
+use kinds::Kind;
 use suites::refusal::Answer;
 use suites::suite::Suite;
 ghost use mathlib.Core.Path.{_≡_};
@@ -92,7 +93,8 @@ impl Writer {
     {
         let s = source.len();
         let t = target.len();
-        let tested = crate::tests::add_tests(self, from, to, s, t, buf.len());
+        let kind = Kind::newest();
+        let tested = crate::tests::add_tests(kind, self, from, to, s, t, buf.len());
         match tested {
             Answer::Refused(why) => Written {
                 answer: Answer::Refused(why),
@@ -106,7 +108,9 @@ impl Writer {
                 let count = self.count;
                 let total = self.total;
                 let closed = self.closed;
+                let taken = kind.unit_room(s, t);
                 let calls = frames::put_unit(
+                    kind,
                     suite,
                     key,
                     number,
@@ -121,7 +125,7 @@ impl Writer {
                     suite,
                     key,
                     number,
-                    place: at + 33 + s + t,
+                    place: at + taken,
                     count: count + 1,
                     total: total + calls,
                     closed,
@@ -138,7 +142,8 @@ impl Writer {
     pub fn close(self, buf: &mut [u8]) -> Written
         ensures { λ r. ⌜ (r .answer ≡ closeOutcome writerKind self (length (now (buf .entry)))) × (r .writer ≡ closeWriter writerKind self (now (buf .entry))) × (now (buf .exit) ≡ closeBuffer writerKind self (now (buf .entry))) ⌝ }
     {
-        let tested = crate::tests::close_tests(self, buf.len());
+        let kind = Kind::newest();
+        let tested = crate::tests::close_tests(kind, self, buf.len());
         match tested {
             Answer::Refused(why) => Written {
                 answer: Answer::Refused(why),
@@ -151,12 +156,13 @@ impl Writer {
                 let number = self.number;
                 let count = self.count;
                 let total = self.total;
-                let made = frames::put_close(suite, key, number, count, &mut buf[at..]);
+                let tail = kind.close_len();
+                let made = frames::put_close(kind, suite, key, number, count, &mut buf[at..]);
                 let writer = Writer {
                     suite,
                     key,
                     number,
-                    place: at + 24,
+                    place: at + tail,
                     count,
                     total: total + made,
                     closed: true,

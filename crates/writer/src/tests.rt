@@ -1,12 +1,12 @@
-// The refusals of start, add and close, in their order.
+// The refusals of start, and of add and close of a writer of a kind, in their order.
 use crate::Writer;
+use kinds::Kind;
 use suites::refusal::Answer;
 use suites::refusal::Refusal;
 use suites::suite::Suite;
-ghost use mathlib.Core.Bool.{cond};
 ghost use mathlib.Core.Path.{_≡_};
 ghost use Rattle.suites.specs.declared.refusal.Answer.the-variants.{Done};
-ghost use Rattle.fields.specs.Kind.{writerKind};
+ghost use Rattle.kinds.specs.Kind.{kindOf};
 ghost use Rattle.writer.specs.Writer.{valid, startOutcome, writerTests, addTests, closeOutcome};
 
 pub(crate) fn start_tests(suite: Suite, key: usize, room: usize) -> Answer
@@ -25,24 +25,24 @@ pub(crate) fn start_tests(suite: Suite, key: usize, room: usize) -> Answer
 }
 
 // Whether a writer's numbers go together, with a buffer of `room` bytes.
-fn is_valid(w: Writer, room: usize) -> bool
-    ensures { λ r. ⌜ r ≡ valid writerKind w room ⌝ }
+fn is_valid(kind: Kind, w: Writer, room: usize) -> bool
+    ensures { λ r. ⌜ r ≡ valid (kindOf kind) w room ⌝ }
 {
     let suite = w.suite;
     let place = w.place;
     let count = w.count;
     let total = w.total;
-    if 65535 < count {
+    if kind.unit_limit() < count {
         return false;
     }
     suite.is_listed() & (16 <= place) & (place <= room) & (total <= 1024 * (count + 1))
 }
 
 // 9 and 10.
-fn writer_tests(w: Writer, room: usize) -> Answer
-    ensures { λ r. ⌜ r ≡ writerTests writerKind w room Done ⌝ }
+fn writer_tests(kind: Kind, w: Writer, room: usize) -> Answer
+    ensures { λ r. ⌜ r ≡ writerTests (kindOf kind) w room Done ⌝ }
 {
-    if !is_valid(w, room) {
+    if !is_valid(kind, w, room) {
         return Answer::Refused(Refusal::WriterInvalid);
     }
     if w.closed {
@@ -52,6 +52,7 @@ fn writer_tests(w: Writer, room: usize) -> Answer
 }
 
 pub(crate) fn add_tests(
+    kind: Kind,
     w: Writer,
     from: [u8; 2],
     to: [u8; 2],
@@ -59,11 +60,11 @@ pub(crate) fn add_tests(
     t: usize,
     room: usize,
 ) -> Answer
-    ensures { λ r. ⌜ r ≡ addTests writerKind w from to s t room ⌝ }
+    ensures { λ r. ⌜ r ≡ addTests (kindOf kind) w from to s t room ⌝ }
 {
     let place = w.place;
     let count = w.count;
-    let tested = writer_tests(w, room);
+    let tested = writer_tests(kind, w, room);
     match tested {
         Answer::Refused(why) => Answer::Refused(why),
         Answer::Done => {
@@ -73,10 +74,10 @@ pub(crate) fn add_tests(
             if !fields::unit::in_range(s, t) {
                 return Answer::Refused(Refusal::SegmentLength);
             }
-            if count == 65535 {
+            if count == kind.unit_limit() {
                 return Answer::Refused(Refusal::TooManyUnits);
             }
-            if room - place < 33 + s + t {
+            if room - place < kind.unit_room(s, t) {
                 return Answer::Refused(Refusal::OutputTooShort);
             }
             Answer::Done
@@ -84,15 +85,15 @@ pub(crate) fn add_tests(
     }
 }
 
-pub(crate) fn close_tests(w: Writer, room: usize) -> Answer
-    ensures { λ r. ⌜ r ≡ closeOutcome writerKind w room ⌝ }
+pub(crate) fn close_tests(kind: Kind, w: Writer, room: usize) -> Answer
+    ensures { λ r. ⌜ r ≡ closeOutcome (kindOf kind) w room ⌝ }
 {
     let place = w.place;
-    let tested = writer_tests(w, room);
+    let tested = writer_tests(kind, w, room);
     match tested {
         Answer::Refused(why) => Answer::Refused(why),
         Answer::Done => {
-            if room - place < 24 {
+            if room - place < kind.close_len() {
                 return Answer::Refused(Refusal::OutputTooShort);
             }
             Answer::Done

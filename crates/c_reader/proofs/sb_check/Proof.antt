@@ -10,14 +10,14 @@ returns c =
     let h = c .before .before .before .before in
     let a = h .before .before .before .args in
     let e = sym (c .before .before .answer .given .1) ∙ h .check .ensures in
-    (c .number .ensures ∙ ap checkReturned e, ap (λ r. checkUnits r (a .units .now)) e, ap (λ r. checkCalls r (a .calls .now)) e)
+    record { returns = c .number .ensures ∙ ap checkReturned e; count = ap (λ r. checkUnits r (a .units .now)) e; total = ap (λ r. checkCalls r (a .calls .now)) e }
 
 returns-2 : tie.Need-returns-2
 returns-2 c =
     let h = c .before .before .before in
     let a = h .before .before .before .args in
     let e = sym (c .before .answer2 .given .1) ∙ h .check .ensures in
-    (ap checkReturned e, ap (λ r. checkUnits r (a .units .now)) e, ap (λ r. checkCalls r (a .calls .now)) e)
+    record { returns = ap checkReturned e; count = ap (λ r. checkUnits r (a .units .now)) e; total = ap (λ r. checkCalls r (a .calls .now)) e }
 
 pub sb-check-spec : {M : Type 1} → statement M
 sb-check-spec =

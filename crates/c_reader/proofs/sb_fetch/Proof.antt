@@ -10,10 +10,12 @@ returns c =
     let h = c .before .before .before .before .before .before in
     let a = h .before .before .before .before .before .args in
     let e = sym (c .before .before .answer .given .1) ∙ h .fetch .ensures .0 in (
-      c .number .ensures ∙ ap fetchReturned e,
+      record {
+        returns = c .number .ensures ∙ ap fetchReturned e;
+        sourceLength = ap (λ r. fetchSource r (a .source .now)) e;
+        targetLength = ap (λ r. fetchTarget r (a .target .now)) e;
+      },
       h .fetch .ensures .1,
-      ap (λ r. fetchSource r (a .source .now)) e,
-      ap (λ r. fetchTarget r (a .target .now)) e,
     )
 
 returns-2 : tie.Need-returns-2
@@ -21,10 +23,12 @@ returns-2 c =
     let h = c .before .before .before .before .before in
     let a = h .before .before .before .before .before .args in
     let e = sym (c .before .answer2 .given .1) ∙ h .fetch .ensures .0 in (
-      ap fetchReturned e,
+      record {
+        returns = ap fetchReturned e;
+        sourceLength = ap (λ r. fetchSource r (a .source .now)) e;
+        targetLength = ap (λ r. fetchTarget r (a .target .now)) e;
+      },
       h .fetch .ensures .1,
-      ap (λ r. fetchSource r (a .source .now)) e,
-      ap (λ r. fetchTarget r (a .target .now)) e,
     )
 
 pub sb-fetch-spec : {M : Type 1} → statement M

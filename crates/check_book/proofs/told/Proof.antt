@@ -5,8 +5,8 @@ use borrow.Author.Needs.{needs}
 use borrow.Author.Tests.{le-leb, lt-leb, ne-eqb}
 use lib.ListN.{length, take}
 use lib.Seq.{take-all}
-use Rattle.fields.specs.Kind.{writerKind}
-use Rattle.reader.specs.Check.{checkTests, checkAnswer}
+use Rattle.parser.specs.Opening.{checkTests}
+use Rattle.reader.specs.Check.{checkAnswerOf, checkAnswer}
 use Rattle.parser.proofs.Openings.{part-rest}
 use Rattle.check_book.specs.Line.{checkedLine, lineOf}
 use Rattle.check_book.proofs.told.Statement.{statement}
@@ -17,7 +17,7 @@ unfolding lineOf
 returns c = rw (lt-leb (length (c .before .before .args .input .now)) 65520 (c .if1 .taken))
 
 returns-2 : tie.Need-returns-2
-unfolding lineOf checkAnswer checkTests
+unfolding lineOf checkAnswer checkAnswerOf checkTests
 returns-2 c =
     let s = c .before .before .before .args .input .now in
     let all : take 16 s ≡ s = take-all 16 s (omega (arith, c .if2 .taken)) in
@@ -30,7 +30,7 @@ returns-3 c =
     let t = h .before .before .before .before in
     let s = t .before .before .args .input .now in
     rw (le-leb (length s) 65520 (t .if1 .left))
-    (c .checked .ensures ∙ ap checkedLine (h .check .ensures ∙ ap (checkAnswer writerKind (take 16 s)) (part-rest 16 s)))
+    (c .checked .ensures ∙ ap checkedLine (h .check .ensures ∙ ap (checkAnswer (take 16 s)) (part-rest 16 s)))
 
 pub told-spec : {M : Type 1} → statement M
 told-spec =

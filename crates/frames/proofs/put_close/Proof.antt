@@ -1,23 +1,36 @@
 -- The header, and the tag of an empty text behind it.
-use mathlib.Core.Path.{_≡_, ap, _∙_}
+use mathlib.Core.Path.{_≡_, sym, ap, _∙_}
 use mathlib.Core.List.{List, _++_}
-use Prim.Native.Nat.{ℕ}
+use Prim.Native.Nat.{ℕ, _+_}
 use native.Mathlib.Omega.{arith}
 use borrow.Author.Needs.{needs}
-use lib.ListN.{length, take, drop}
+use lib.ListN.{take, drop}
+use lib.Seq.{length-take-le}
 use Rattle.sealing.specs.Seal.{sealed}
-use Rattle.fields.specs.Kind.{writerKind}
+use Rattle.fields.specs.Kind.{Kind}
+use Rattle.kinds.specs.Kind.{kindOf}
+use Rattle.kinds.specs.Lengths.{closeLength}
 use Rattle.format.specs.Layout.{closeBytes}
 use Rattle.format.specs.Sealings.{Sealing, closeHeader, closeSealing}
+use Rattle.format.proofs.Behind.{behind}
 use Rattle.frames.specs.Parts.{tagApart}
-use Rattle.frames.proofs.Behind.{copied, behind}
-use Rattle.frames.proofs.Sealed.{length-head, head-behind, calls-are, sealed-are}
+use Rattle.frames.proofs.Sealed.{length-head, head-put, calls-are, sealed-are}
 use Rattle.frames.proofs.put_close.Statement.{statement}
 use Rattle.frames.proofs.put_close.Tie as tie
 
+slice-aggregate-seal-here-2 : tie.Need-slice-aggregate-seal-here-2
+slice-aggregate-seal-here-2 c =
+    let g = c .before .before .before .before .before .before .before .before .before .before in
+    sym (length-take-le (g .close-along .result .len) (g .close-along .result .bytes) (g .close-along .ensures .fits))
+
 seal-here-requires : tie.Need-seal-here-requires
 seal-here-requires c κs =
-    let p = c .before .before .before .before .before .before .before .before .before .before .before .before in
+    let h = c .before .before .before .before .before .before .before .before .before in
+    let g = h .before .before in
+    let p = g .before .before .before in
+    let r = g .close-along .result in
+    let long = length-take-le (r .len) (r .bytes) (g .close-along .ensures .fits) in
+    let short = h .close-header-len .ensures in
     (record { listedSuite = p .pre .0; nonceLong = omega arith; headerShort = omega arith; textShort = omega arith }, search needs)
 
 returns : tie.Need-returns
@@ -25,23 +38,29 @@ unfolding closeBytes closeSealing tagApart
 returns c =
     let l = c .before .before in
     let k = l .before .before .before .before .before .before in
-    let g = k .before .before .before .before in
+    let h = k .before .before .before .before in
+    let g = h .before .before in
     let o = g .before in
     let a = o .before .before .args in
     let out = a .out .now in
     let nonce = o .nonce .result in
-    let along = g .close-along .result in
-    let s : Sealing = closeSealing writerKind (a .suite) (a .number) (a .n) in
-    let head : List ℕ = closeHeader writerKind (a .n) in
-    let five : length head ≡ 5 = length-head (a .suite) (a .number) 5 head along (g .close-along .ensures) (omega arith) in
+    let r = g .close-along .result in
+    let is = g .close-along .ensures in
+    let header : List ℕ = take (r .len) (r .bytes) in
+    let n = h .close-header-len .result in
+    let kind : Kind = kindOf (a .kind) in
+    let s : Sealing = closeSealing kind (a .suite) (a .number) (a .n) in
+    let head : List ℕ = closeHeader kind (a .n) in
+    let long : r .len ≡ 16 + n = omega (arith, is .long, h .close-header-len .ensures .is) in
     let x = k .copy .last .1 .0 in
-    let is : x ≡ head ++ drop 5 out =
-    copied 5 head (take 5 (drop 16 along)) out x five (head-behind (a .suite) (a .number) 5 head along (g .close-along .ensures) (omega arith)) (k .copy .ensures) in (
-      calls-are s nonce along (o .nonce .ensures) (g .close-along .ensures) (l .seal-here .result) (l .seal-here .ensures .0),
-      behind 5 head out x five is 19 24 (omega arith) (λ q. tagApart 0 (sealed (a .suite .cipher) (a .suite .steps) (a .key) nonce along (take 0 q)))
+    record {
+      calls = calls-are s nonce header (o .nonce .ensures) (is .is) (l .seal-here .result) (l .seal-here .ensures .0);
+      is =
+          behind n head out x (length-head (a .suite) (a .number) n head r is long) (head-put (a .suite) (a .number) n head r is long out x (k .copy .ensures))
+          19 (closeLength kind) (omega (arith, h .close-header-len .ensures .is)) (λ q. tagApart 0 (sealed (a .suite .cipher) (a .suite .steps) (a .key) nonce header (take 0 q)))
           (l .seal-here .last .1 .1 .1 .1 .1 .0) (l .seal-here .ensures .1)
-          ∙ ap (λ (z : List ℕ). (head ++ tagApart 0 z) ++ drop 24 out) (sealed-are s nonce along (o .nonce .ensures) (g .close-along .ensures) (a .suite) (a .key)),
-    )
+          ∙ ap (λ (z : List ℕ). (head ++ tagApart 0 z) ++ drop (closeLength kind) out) (sealed-are s nonce header (o .nonce .ensures) (is .is) (a .suite) (a .key));
+    }
 
 pub put-close-spec : {M : Type 1} → statement M
 put-close-spec =
@@ -49,12 +68,14 @@ put-close-spec =
     (tie.spec
     (λ c κs. search needs)
     (λ c κs. search needs)
+    (λ c κs. search needs)
     (λ c. search needs)
     (λ c. search needs)
     (λ c. search needs)
     (λ c κs. search needs)
     (λ c. search needs)
     (λ c. search needs)
+    slice-aggregate-seal-here-2
     (λ c. search needs)
     (λ c. search needs)
     (λ c. search needs)

@@ -14,7 +14,7 @@ use Rattle.fields.specs.Unit.{unitText}
 use Rattle.fields.proofs.Fields.{length-fieldHead}
 use Rattle.fields.proofs.Texts.{length-unitText}
 use Rattle.frames.specs.Parts.{tagApart}
-use Rattle.frames.proofs.Behind.{copied, later, of-part, behind}
+use Rattle.format.proofs.Behind.{copied, later, of-part, behind}
 use Rattle.sealing.proofs.Sealed.{length-sealed}
 use Rattle.frames.proofs.Sealed.{fields-joined}
 use Rattle.frames.proofs.put_sealed.Statement.{statement}

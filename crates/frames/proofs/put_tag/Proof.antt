@@ -8,7 +8,7 @@ use lib.ListN.{length, take, drop}
 use lib.Seq.{length-take-le, take-take}
 use Rattle.fields.specs.Field.{fieldHead, field}
 use Rattle.fields.proofs.Fields.{length-fieldHead}
-use Rattle.frames.proofs.Behind.{copied, front, later}
+use Rattle.format.proofs.Behind.{copied, front, later}
 use Rattle.frames.proofs.put_tag.Statement.{statement}
 use Rattle.frames.proofs.put_tag.Tie as tie
 

@@ -1,25 +1,23 @@
--- a fills the output's start, and b what is left of it.
-use mathlib.Core.Path.{_≡_, ap, _∙_}
-use mathlib.Core.List.{_++_}
-use Prim.Native.Nat.{_+_, _-_}
-use native.Mathlib.Omega.{arith}
+-- a stands at the output's start, and b is copied to the rest.
+use mathlib.Core.Path.{refl, _∙_}
+use mathlib.Core.List.{append-assoc}
+use Prim.Native.Nat.{_+_}
 use borrow.Author.Needs.{needs}
-use lib.ListN.{length, take, drop, length-append, length-drop}
-use lib.Seq.{take-append-seam}
-use Rattle.fields.proofs.Reading.{joined}
+use lib.ListN.{length, drop}
+use Rattle.format.proofs.Behind.{behind}
 use Rattle.format.proofs.bytes.join.Statement.{statement}
 use Rattle.format.proofs.bytes.join.Tie as tie
 
 returns : tie.Need-returns
 returns c =
-    let h = c .before .before .before .before .before .before in
-    let a = h .before .before .before .before .before .args in
-    let x = h .copy .last .1 .0 in
-    let n = length (a .a .now) in
-    let front : take n x ≡ a .a .now = ap (take n) (h .copy .ensures) ∙ take-append-seam (a .a .now) (drop n (a .out .now)) in
-    let long : length x ≡ n + length (a .b .now) =
-    ap length (h .copy .ensures) ∙ length-append (a .a .now) (drop n (a .out .now)) ∙ omega (arith, length-drop n (a .out .now)) in
-    ap (λ y. take n x ++ (y ++ drop (length x - n) (drop n x))) (c .before .before .copy2 .ensures) ∙ joined (a .a .now) (a .b .now) x front long
+    let k = c .before .before in
+    let h = k .before .before .before .before in
+    let p = h .before .before .before .before .before .args in
+    let a = p .a .now in
+    let b = p .b .now in
+    let end = length a + length b in
+    behind (length a) a (p .out .now) (h .copy .last .1 .0) refl (h .copy .ensures) (length b) end refl (λ q. b) (k .copy2 .last .1 .0) (k .copy2 .ensures)
+    ∙ append-assoc a b (drop end (p .out .now))
 
 pub join-spec : {M : Type 1} → statement M
 join-spec =

@@ -2,7 +2,7 @@
 use mathlib.Core.Path.{_≡_, sym, ap, _∙_}
 use Prim.Native.Nat.{ℕ}
 use borrow.Author.Needs.{needs}
-use Rattle.fields.specs.Kind.{kind10}
+use Rattle.kinds.specs.Kind.{kindOf}
 use Rattle.parser.specs.declared.frame.Frame.{Frame}
 use Rattle.parser.specs.declared.frame.Frame.the-variants.{Unit, Close}
 use Rattle.parser.specs.Frame.{frameOf}
@@ -13,26 +13,26 @@ use Rattle.reader.proofs.check.checked_at.Tie as tie
 
 -- with the seal of the frame that was read
 sealed : (c : tie.After-at) (f : Frame) → c .at .result ≡ f
-    → let a = c .before .before .before .args in
-    withSeal f (λ (m : ℕ). unitSealTests kind10 (a .suite) (a .key .now) (a .number) (a .n) m (a .s .now)) (closeSealTests kind10 (a .suite) (a .key .now) (a .number) (a .n) (a .s .now))
-    ≡ checkedAt kind10 (a .suite) (a .key .now) (a .number) (a .n) (a .s .now)
+    → let a = c .before .before .before .before .args in
+    withSeal f (λ (m : ℕ). unitSealTests (kindOf (a .kind)) (a .key .now) (a .front .now) (a .n) m (a .s .now)) (closeSealTests (kindOf (a .kind)) (a .key .now) (a .front .now) (a .n) (a .s .now))
+    ≡ checkedAt (kindOf (a .kind)) (a .key .now) (a .front .now) (a .n) (a .s .now)
 unfolding checkedAt
 sealed c f e =
-    let a = c .before .before .before .args in
-    ap (λ g. withSeal g (λ (m : ℕ). unitSealTests kind10 (a .suite) (a .key .now) (a .number) (a .n) m (a .s .now)) (closeSealTests kind10 (a .suite) (a .key .now) (a .number) (a .n) (a .s .now)))
+    let a = c .before .before .before .before .args in
+    ap (λ g. withSeal g (λ (m : ℕ). unitSealTests (kindOf (a .kind)) (a .key .now) (a .front .now) (a .n) m (a .s .now)) (closeSealTests (kindOf (a .kind)) (a .key .now) (a .front .now) (a .n) (a .s .now)))
     (sym e ∙ c .at .ensures)
 
 close-requires : tie.Need-close-requires
 close-requires c κs =
     let h = c .before .before in
-    let p = h .before .before .before in
-    (p .pre .0, p .pre .1, sym (h .at .ensures) ∙ c .enum-told .given .1)
+    let p = h .before .before .before .before in
+    (p .pre, sym (h .at .ensures) ∙ c .enum-told .given .1)
 
 unit-requires : tie.Need-unit-requires
 unit-requires c κs =
     let h = c .before .before .before in
-    let p = h .before .before .before in
-    (p .pre .0, p .pre .1, sym (h .at .ensures) ∙ c .before .frame2 .given .1)
+    let p = h .before .before .before .before in
+    (p .pre, sym (h .at .ensures) ∙ c .before .frame2 .given .1)
 
 returns : tie.Need-returns
 returns c = sealed (c .before .before .before) _ (c .before .frame .given .1)

@@ -4,7 +4,6 @@ use Prim.Native.Nat.{_+_, _≤_}
 use native.Mathlib.Nat.{add-sub-cancel-left}
 use borrow.Author.Needs.{needs}
 use lib.ListN.{length, take, drop}
-use Rattle.fields.specs.Kind.{kind10}
 use Rattle.walk.specs.declared.ciphertext.Part.{Part}
 use Rattle.walk.specs.Ciphertext.{ciphertextPart}
 use Rattle.walk.proofs.Places.{ciphertext-within}
@@ -14,7 +13,7 @@ use Rattle.walk.proofs.ciphertext.ciphertext.Tie as tie
 within : (c : tie.After-struct-known) → let p = c .before .place .result in p .at + p .len ≤ length (c .before .before .before .args .book .now)
 within c =
     let a = c .before .before .before .args in
-    rw (c .before .place .ensures) (ciphertext-within kind10 (a .k) (a .book .now))
+    rw (c .before .place .ensures) (ciphertext-within (a .k) (a .book .now))
 
 add-end : tie.Need-add-end
 add-end c = let h = within c in search needs

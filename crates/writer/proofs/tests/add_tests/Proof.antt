@@ -9,9 +9,9 @@ use Rattle.suites.specs.declared.refusal.Answer.{Answer}
 use Rattle.suites.specs.declared.refusal.Answer.the-variants.{Done}
 use Rattle.suites.specs.declared.refusal.Refusal.the-variants.{LanguagesNotAllowed, SegmentLength, TooManyUnits, OutputTooShort}
 use Rattle.limits.specs.Tests.{unless}
-use Rattle.fields.specs.Kind.{writerKind}
+use Rattle.kinds.specs.Kind.{kindOf}
 use Rattle.fields.specs.Languages.{pairAllowed}
-use Rattle.format.specs.Layout.{unitLength}
+use Rattle.kinds.specs.Lengths.{unitLength}
 use Rattle.fields.specs.Unit.{inRange}
 use Rattle.format.proofs.Lengths.{range-told}
 use Rattle.writer.specs.Writer.{byAnswer, writerTests, addTests}
@@ -21,14 +21,14 @@ use Rattle.writer.proofs.tests.add_tests.Statement.{statement}
 use Rattle.writer.proofs.tests.add_tests.Tie as tie
 
 abbrev outcome : tie.Start → Answer
-outcome p = let a = p .args in addTests writerKind (a .w) (a .from) (a .to) (a .s) (a .t) (a .room)
+outcome p = let a = p .args in addTests (kindOf (a .kind)) (a .w) (a .from) (a .to) (a .s) (a .t) (a .room)
 
 -- each test with those after it
 abbrev roomTest : tie.Start → Answer
-roomTest p = let a = p .args in unless (leb (a .w .place + unitLength writerKind (a .s) (a .t)) (a .room)) OutputTooShort Done
+roomTest p = let a = p .args in unless (leb (a .w .place + unitLength (kindOf (a .kind)) (a .s) (a .t)) (a .room)) OutputTooShort Done
 
 abbrev countTest : tie.Start → Answer
-countTest p = unless (ltb (p .args .w .count) 65535) TooManyUnits (roomTest p)
+countTest p = unless (ltb (p .args .w .count) (kindOf (p .args .kind) .unitLimit)) TooManyUnits (roomTest p)
 
 abbrev lengthTest : tie.Start → Answer
 lengthTest p = unless (inRange (p .args .s) (p .args .t)) SegmentLength (countTest p)
@@ -38,17 +38,17 @@ languageTest p = unless (pairAllowed (p .args .from) (p .args .to)) LanguagesNot
 
 -- what the tests that are done leave
 module _ (c : tie.After-enum-told) where
-  done : let a = c .before .before .before .args in writerTests writerKind (a .w) (a .room) Done ≡ Done
+  done : let a = c .before .before .before .args in writerTests (kindOf (a .kind)) (a .w) (a .room) Done ≡ Done
   done = sym (c .before .before .writer-tests .ensures) ∙ c .enum-told .given .1
 
-  valid : let a = c .before .before .before .args in Valid writerKind (a .w) (a .room)
-  valid = let a = c .before .before .before .args in writer-passed writerKind (a .w) (a .room) Done done .0
+  valid : let a = c .before .before .before .args in Valid (kindOf (a .kind)) (a .w) (a .room)
+  valid = let a = c .before .before .before .args in writer-passed (kindOf (a .kind)) (a .w) (a .room) Done done .0
 
   to-languages : outcome (c .before .before .before) ≡ languageTest (c .before .before .before)
   unfolding addTests
   to-languages =
       let p = c .before .before .before in
-      writer-first writerKind (p .args .w) (p .args .room) (languageTest p) ∙ ap (λ (a : Answer). byAnswer a (languageTest p) a) done
+      writer-first (kindOf (p .args .kind)) (p .args .w) (p .args .room) (languageTest p) ∙ ap (λ (a : Answer). byAnswer a (languageTest p) a) done
 
 to-lengths : (c : tie.Else1) → let p = c .before .before .before .before .before in outcome p ≡ lengthTest p
 to-lengths c =
@@ -69,14 +69,16 @@ module _ (c : tie.Else2) where
       ∙ passes (inRange (p .args .s) (p .args .t)) SegmentLength (countTest p) (sym (c .before .in-range .ensures) ∙ not-false (c .before .in-range .result) (c .if2 .left))
 
 module _ (c : tie.Else3) where
-  within : let a = c .before .before .before .before .before .before .before .before .args in Valid writerKind (a .w) (a .room)
-  within = valid (c .before .before .before .before .before)
+  within : let a = c .before .before .before .before .before .before .before .before .before .args in Valid (kindOf (a .kind)) (a .w) (a .room)
+  within = valid (c .before .before .before .before .before .before)
 
-  to-room : let p = c .before .before .before .before .before .before .before .before in outcome p ≡ roomTest p
+  to-room : let p = c .before .before .before .before .before .before .before .before .before in outcome p ≡ roomTest p
   to-room =
-      let p = c .before .before .before .before .before .before .before .before in
+      let u = c .before in
+      let p = u .before .before .before .before .before .before .before .before in
+      let limit = kindOf (p .args .kind) .unitLimit in
       let v = within in
-      to-count (c .before) ∙ passes (ltb (p .args .w .count) 65535) TooManyUnits (roomTest p) (lt-ltb (p .args .w .count) 65535 (omega arith))
+      to-count (u .before) ∙ passes (ltb (p .args .w .count) limit) TooManyUnits (roomTest p) (lt-ltb (p .args .w .count) limit (omega (arith, u .unit-limit .ensures .is)))
 
 returns : tie.Need-returns
 returns c =
@@ -94,41 +96,40 @@ returns-2 c =
 
 returns-3 : tie.Need-returns-3
 returns-3 c =
-    let p = c .before .before .before .before .before .before .before .before in
-    sym (to-count (c .before) ∙ refuses (ltb (p .args .w .count) 65535) TooManyUnits (roomTest p) (le-ltb (p .args .w .count) 65535 (omega arith)))
+    let u = c .before in
+    let p = u .before .before .before .before .before .before .before .before in
+    let limit = kindOf (p .args .kind) .unitLimit in
+    sym (to-count (u .before) ∙ refuses (ltb (p .args .w .count) limit) TooManyUnits (roomTest p) (le-ltb (p .args .w .count) limit (omega (arith, u .unit-limit .ensures .is))))
 
 sub-if4 : tie.Need-sub-if4
 sub-if4 c = within c .within
 
-add-if4 : tie.Need-add-if4
-add-if4 c = let r = range (c .before) in omega arith
-
-add-if4-2 : tie.Need-add-if4-2
-add-if4-2 c = let r = range (c .before) in omega arith
+unit-room-requires : tie.Need-unit-room-requires
+unit-room-requires c κs = let r = range (c .before .before) in omega arith
 
 returns-4 : tie.Need-returns-4
 returns-4 c =
-    let a = c .before .before .before .before .before .before .before .before .before .args in
-    let v = within (c .before) in
-    sym
-    (to-room (c .before)
-    ∙ refuses (leb (a .w .place + unitLength writerKind (a .s) (a .t)) (a .room)) OutputTooShort Done (lt-leb (a .w .place + unitLength writerKind (a .s) (a .t)) (a .room) (omega arith)))
+    let h = c .before in
+    let a = h .before .before .before .before .before .before .before .before .before .before .args in
+    let end = a .w .place + unitLength (kindOf (a .kind)) (a .s) (a .t) in
+    let v = within (h .before) in
+    sym (to-room (h .before) ∙ refuses (leb end (a .room)) OutputTooShort Done (lt-leb end (a .room) (omega (arith, h .unit-room .ensures .is))))
 
 returns-5 : tie.Need-returns-5
 unfolding addTests
 returns-5 c =
     let p = c .before .before .before .before in
     sym
-    (writer-first writerKind (p .args .w) (p .args .room) (languageTest p)
+    (writer-first (kindOf (p .args .kind)) (p .args .w) (p .args .room) (languageTest p)
     ∙ ap (λ (a : Answer). byAnswer a (languageTest p) a) (sym (c .before .before .before .writer-tests .ensures) ∙ c .before .tested .given .1))
 
 returns-6 : tie.Need-returns-6
 returns-6 c =
-    let a = c .before .before .before .before .before .before .before .before .before .args in
-    let v = within (c .before) in
-    sym
-    (to-room (c .before)
-    ∙ passes (leb (a .w .place + unitLength writerKind (a .s) (a .t)) (a .room)) OutputTooShort Done (le-leb (a .w .place + unitLength writerKind (a .s) (a .t)) (a .room) (omega arith)))
+    let h = c .before in
+    let a = h .before .before .before .before .before .before .before .before .before .before .args in
+    let end = a .w .place + unitLength (kindOf (a .kind)) (a .s) (a .t) in
+    let v = within (h .before) in
+    sym (to-room (h .before) ∙ passes (leb end (a .room)) OutputTooShort Done (le-leb end (a .room) (omega (arith, h .unit-room .ensures .is))))
 
 pub add-tests-spec : {M : Type 1} → statement M
 add-tests-spec =
@@ -141,10 +142,10 @@ add-tests-spec =
     returns
     (λ c κs. search needs)
     returns-2
+    (λ c κs. search needs)
     returns-3
     sub-if4
-    add-if4
-    add-if4-2
+    unit-room-requires
     returns-4
     returns-5
     returns-6)

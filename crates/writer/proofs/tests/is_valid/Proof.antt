@@ -2,10 +2,12 @@
 use mathlib.Core.Path.{_≡_, ap, _∙_}
 use mathlib.Core.Bool.{Bool, true, false, _&&_, and-false, and-assoc}
 use Prim.Native.Nat.{_+_, _*_}
+use native.Mathlib.Omega.{arith}
 use borrow.Author.Needs.{needs}
 use borrow.Author.Tests.{le-leb, lt-leb}
 use lib.Dec.{leb}
 use Rattle.suites.specs.Suite.{listed}
+use Rattle.kinds.specs.Kind.{kindOf}
 use Rattle.writer.proofs.tests.is_valid.Statement.{statement}
 use Rattle.writer.proofs.tests.is_valid.Tie as tie
 
@@ -19,16 +21,22 @@ module _ (l p r n t : Bool) where
 
 returns : tie.Need-returns
 returns c =
-    let a = c .before .before .args in
+    let u = c .before in
+    let a = u .before .before .args in
     let w = a .w in
-    none (listed (w .suite .cipher) (w .suite .steps)) (leb 16 (w .place)) (leb (w .place) (a .room)) (leb (w .count) 65535) (leb (w .total) (1024 * (w .count + 1))) (lt-leb (w .count) 65535 (c .if1 .taken))
+    let limit = kindOf (a .kind) .unitLimit in
+    none (listed (w .suite .cipher) (w .suite .steps)) (leb 16 (w .place)) (leb (w .place) (a .room)) (leb (w .count) limit) (leb (w .total) (1024 * (w .count + 1)))
+    (lt-leb (w .count) limit (omega (arith, u .unit-limit .ensures .is)))
 
 returns-2 : tie.Need-returns-2
 returns-2 c =
-    let a = c .before .before .before .args in
+    let u = c .before .before in
+    let a = u .before .before .args in
     let w = a .w in
+    let limit = kindOf (a .kind) .unitLimit in
     ap (λ l. l && leb 16 (w .place) && leb (w .place) (a .room) && leb (w .total) (1024 * (w .count + 1))) (c .is-listed .ensures)
-    ∙ rest (listed (w .suite .cipher) (w .suite .steps)) (leb 16 (w .place)) (leb (w .place) (a .room)) (leb (w .count) 65535) (leb (w .total) (1024 * (w .count + 1))) (le-leb (w .count) 65535 (c .before .if1 .left))
+    ∙ rest (listed (w .suite .cipher) (w .suite .steps)) (leb 16 (w .place)) (leb (w .place) (a .room)) (leb (w .count) limit) (leb (w .total) (1024 * (w .count + 1)))
+    (le-leb (w .count) limit (omega (arith, u .unit-limit .ensures .is)))
 
 pub is-valid-spec : {M : Type 1} → statement M
-is-valid-spec = tie.close (tie.spec returns (λ c κs. search needs) (λ c. search needs) (λ c. search needs) returns-2)
+is-valid-spec = tie.close (tie.spec (λ c κs. search needs) returns (λ c κs. search needs) (λ c. search needs) (λ c. search needs) returns-2)
