@@ -21,6 +21,23 @@ pub fn lengths_allowed(s: usize, t: usize) -> bool {
     (1..=4_096).contains(&s) && t <= 4_096
 }
 
+/// How many bytes a unit takes: "33 + s + t".
+pub fn unit_len(unit: &Unit) -> usize {
+    33 + unit.source.len() + unit.target.len()
+}
+
+/// Where each unit begins, and then the close: "A book takes 16 + the sum of (33 + s + t) + 24 bytes."
+pub fn places(book: &Book) -> Vec<usize> {
+    let mut places = vec![16];
+    for unit in &book.units {
+        places.push(places[places.len() - 1] + unit_len(unit));
+    }
+    places
+}
+
+/// Where a unit's ciphertext begins: behind field 10, and tag and length of field 11.
+pub const CIPHERTEXT: usize = 12;
+
 /// A unit: two language codes, and a segment in each language.
 #[derive(Clone, Debug, PartialEq, Eq)]
 pub struct Unit {
@@ -255,6 +272,7 @@ mod tests {
             for (s, t) in [(1, 0), (4_096, 4_096), (13, 1), (300, 0), (14, 16)] {
                 let (bytes, calls) = book.laid_out();
                 assert_eq!(bytes.len(), len);
+                assert_eq!(places(&book).last(), Some(&(len - 24)));
                 let texts = book.units.iter().map(|unit| unit.text().len().div_ceil(16));
                 assert_eq!(calls, texts.map(|blocks| blocks + 3).sum::<usize>() + 3);
                 let again = Book::taken_apart(&book.key, &bytes);

@@ -37,20 +37,21 @@ pub fn fetch(key: &[u8], book: &[u8], k: u64, out_len: usize) -> Result<Fetched,
 }
 
 /// The same without the walk, which the scope does not have: what stands at byte `at` of the book, as
-/// unit `number`. Past the book's end there are no bytes.
+/// unit `number`, and where the next unit begins, or the close. Past the book's end there are no bytes.
 pub fn fetch_at(
     key: &[u8],
     book: &[u8],
     number: u64,
     at: usize,
     out_len: usize,
-) -> Result<Fetched, u32> {
+) -> Result<(Fetched, usize), u32> {
     if key.len() != 16 {
         return Err(2);
     }
     let opening = Opening::of(book)?;
-    let frame = Frame::at(book, at.min(book.len()), number)?;
-    opening.fetched(key, number, &frame, out_len)
+    let frame = Frame::at(book, at, number)?;
+    let fetched = opening.fetched(key, number, &frame, out_len)?;
+    Ok((fetched, frame.end))
 }
 
 /// "Given k, a second call hands back unit k's ciphertext as a part of the book buffer itself, unopened,
@@ -66,16 +67,16 @@ pub fn ciphertext(book: &[u8], k: u64) -> Range<usize> {
 }
 
 /// A book that begins with fields 01 and 02, and what these say.
-struct Opening<'a> {
+pub(crate) struct Opening<'a> {
     book: &'a [u8],
-    number: &'a [u8],
-    cipher: u8,
-    steps: u8,
+    pub(crate) number: &'a [u8],
+    pub(crate) cipher: u8,
+    pub(crate) steps: u8,
 }
 
 impl Opening<'_> {
     /// "14 of 01 and 02; 1"
-    fn of(book: &[u8]) -> Result<Opening<'_>, u32> {
+    pub(crate) fn of(book: &[u8]) -> Result<Opening<'_>, u32> {
         let mut place = 0;
         let number = field(book, &mut place, 0x01, 8..=8)?;
         let suite = field(book, &mut place, 0x02, 2..=2)?;
@@ -130,21 +131,22 @@ impl Opening<'_> {
 }
 
 /// A unit or a close, as it stands in a book.
-struct Frame<'a> {
-    is_unit: bool,
+pub(crate) struct Frame<'a> {
+    pub(crate) is_unit: bool,
     /// Field 10 or 20.
-    head: &'a [u8],
+    pub(crate) head: &'a [u8],
     /// Where the value of field 11 stands; a close has none.
-    ciphertext: Range<usize>,
+    pub(crate) ciphertext: Range<usize>,
     /// The value of field 12.
     tag: &'a [u8],
     /// Where the frame ends.
-    end: usize,
+    pub(crate) end: usize,
 }
 
 impl Frame<'_> {
-    /// The frame at a place, where so many units stand before it.
-    fn at(book: &[u8], start: usize, number: u64) -> Result<Frame<'_>, u32> {
+    /// The frame at a place, where so many units stand before it. A place past the end is as the end.
+    pub(crate) fn at(book: &[u8], start: usize, number: u64) -> Result<Frame<'_>, u32> {
+        let start = start.min(book.len());
         match book.get(start) {
             Some(0x20) => Frame::close_at(book, start, number),
             _ => Frame::unit_at(book, start, number),
@@ -261,7 +263,7 @@ mod tests {
         };
         assert_eq!(fetch(&KEY, &known(), 0, 11), Ok(unit.clone()));
         assert_eq!(fetch(&KEY, &known(), 0, 10), Err(7));
-        assert_eq!(fetch_at(&KEY, &known(), 0, 16, 11), Ok(unit));
+        assert_eq!(fetch_at(&KEY, &known(), 0, 16, 11), Ok((unit, 60)));
         assert_eq!(fetch_at(&KEY, &known(), 1, 60, 0), Err(16));
         for k in [1, 2, 1 << 16, 1 << 32, u64::MAX] {
             assert_eq!(fetch(&KEY, &known(), k, 0), Err(16), "{k}");
@@ -384,9 +386,10 @@ mod tests {
                 let (number, m) = (k as u64, len + 2);
                 assert_eq!(fetch(&book.key, &bytes, number, len), expected);
                 assert_eq!(fetch(&book.key, &bytes, number, len - 1), Err(7));
-                assert_eq!(fetch_at(&book.key, &bytes, number, place, len), expected);
                 assert_eq!(ciphertext(&bytes, number), place + 12..place + 12 + m);
+                let at_its_place = fetch_at(&book.key, &bytes, number, place, len);
                 place += 33 + len;
+                assert_eq!(at_its_place, expected.map(|unit| (unit, place)));
             }
             assert_eq!(fetch(&book.key, &bytes, 5, 0), Err(16));
             assert_eq!(fetch_at(&book.key, &bytes, 5, place, 0), Err(16));

@@ -1,5 +1,6 @@
 //! A second implementation of the tweakable block ciphers Scream and iScream (CAESAR version 1), of the
-//! sealing mode over them, and of the writer, the checker and the fetcher of sealed books.
+//! sealing mode over them, of the writer, the checker and the fetcher of sealed books, and of what these say
+//! in the clear.
 //!
 //! It is written from the paper's tables, on columns and rows as the paper draws them, and is
 //! never fast: it is there to be read, and to hold other implementations against.
@@ -8,6 +9,7 @@ pub mod book;
 pub mod boxes;
 pub mod check;
 pub mod cipher;
+pub mod clear;
 pub mod fetch;
 pub mod random;
 pub mod sealing;
