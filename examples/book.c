@@ -1,12 +1,18 @@
-/* Writes a book of three units, checks it, fetches one unit and prints it.
+/* Writes a book of three units, checks it, fetches one unit and goes over all; then reads what stands in the clear, without the
+ * key, and has the book refused with one bit changed. Prints what it did.
  *
  *     cc -std=c99 -Wall -Wextra -I include examples/book.c target/staticlib/libsealed_book.a -o target/book && target/book
  */
 #include <stdint.h>
 #include <stdio.h>
+#include <stdlib.h>
 #include <string.h>
 
 #include "sealed_book.h"
+
+#if SB_VERSION != 2
+#error "this program is written for version 2 of the header"
+#endif
 
 struct unit {
     const char *source, *target;
@@ -18,43 +24,96 @@ static const struct unit units[] = {
     {"Wait two minutes.", ""}, /* not translated yet */
 };
 
-/* Says what was refused, and returns the status for main. */
-static int refused(const char *call, uint32_t number) {
+#define COUNT (sizeof units / sizeof units[0])
+
+/* Here fixed, in earnest secret. */
+static const uint8_t key[SB_KEY_LEN] = {0x00, 0x01, 0x02, 0x03, 0x04, 0x05, 0x06, 0x07,
+                                        0x08, 0x09, 0x0A, 0x0B, 0x0C, 0x0D, 0x0E, 0x0F};
+
+/* Says what was refused, and returns it. */
+static uint32_t refused(const char *call, uint32_t number) {
     fprintf(stderr, "%s: refusal %u: %s\n", call, (unsigned)number, sb_refusal_text(number));
-    return 1;
+    return number;
+}
+
+/* Writes the book, and says how many bytes it has. Its number must be one never used before under the key. */
+static uint32_t write_book(uint8_t *book, size_t room, size_t *len) {
+    uint8_t writer[SB_WRITER_LEN];
+    uint32_t no = sb_start(SB_SCREAM, 10, key, sizeof key, 1, book, room, writer);
+    if (no != 0) return refused("sb_start", no);
+    for (size_t i = 0; i < COUNT; i++) {
+        no = sb_add(writer, book, room, (const uint8_t *)"en", (const uint8_t *)"de",
+                    (const uint8_t *)units[i].source, strlen(units[i].source),
+                    (const uint8_t *)units[i].target, strlen(units[i].target));
+        if (no != 0) return refused("sb_add", no);
+    }
+    no = sb_close(writer, book, room);
+    if (no != 0) return refused("sb_close", no);
+    *len = (size_t)sb_place(writer);
+    memset(writer, 0, sizeof writer); /* it holds the key */
+    return 0;
+}
+
+static void print_unit(const char *name, uint64_t k, const uint8_t *out, uint64_t source_len, uint64_t target_len) {
+    printf("%s %lu: %.*s", name, (unsigned long)k, (int)source_len, (const char *)out);
+    if (target_len > 0) printf(" = %.*s", (int)target_len, (const char *)out + source_len);
+    printf("\n");
+}
+
+/* Checks the book, fetches one unit, and then all in order. */
+static uint32_t read_book(const uint8_t *book, size_t len) {
+    uint8_t out[SB_UNIT_MAX];
+    uint64_t count, calls, source_len, target_len, k = 0, at = SB_FIRST_UNIT;
+    uint32_t no = sb_check(key, sizeof key, book, len, &count, &calls);
+    if (no != 0) return refused("sb_check", no);
+    printf("checked: %lu units, %lu cipher calls\n", (unsigned long)count, (unsigned long)calls);
+
+    no = sb_fetch(key, sizeof key, book, len, 1, out, sizeof out, &source_len, &target_len);
+    if (no != 0) return refused("sb_fetch", no);
+    print_unit("fetched unit", 1, out, source_len, target_len);
+
+    /* at is where the next unit begins */
+    while ((no = sb_fetch_at(key, sizeof key, book, len, k, (size_t)at, out, sizeof out, &source_len, &target_len, &at)) == 0)
+        print_unit("unit", k++, out, source_len, target_len);
+    return no == SB_NO_UNIT ? 0 : refused("sb_fetch_at", no);
+}
+
+/* Says what stands in the clear, of the book and of one unit: no key is needed, and no seal is tested. Hands out where that
+ * unit's ciphertext begins. */
+static uint32_t read_clear(const uint8_t *book, size_t len, size_t *ciphertext) {
+    uint8_t cipher, steps, from[SB_CODE_ROOM], to[SB_CODE_ROOM];
+    uint64_t number, at, from_len, to_len, ciphertext_at, ciphertext_len, next;
+    uint32_t no = sb_info(book, len, &cipher, &steps, &number);
+    if (no != 0) return refused("sb_info", no);
+    printf("in the clear: book %lu, cipher %u with %u steps\n", (unsigned long)number, cipher, steps);
+    no = sb_unit(book, len, 1, &at, from, &from_len, to, &to_len, &ciphertext_at, &ciphertext_len, &next);
+    if (no != 0) return refused("sb_unit", no);
+    printf("in the clear: unit 1, %.*s to %.*s, %lu bytes of ciphertext\n", (int)from_len, (const char *)from,
+           (int)to_len, (const char *)to, (unsigned long)ciphertext_len);
+    *ciphertext = (size_t)ciphertext_at;
+    return 0;
 }
 
 int main(void) {
-    /* The key and the book's number: here fixed, in earnest a secret one, and a number never used before under it. */
-    static const uint8_t key[16] = {0x00, 0x01, 0x02, 0x03, 0x04, 0x05, 0x06, 0x07, 0x08, 0x09, 0x0A, 0x0B, 0x0C, 0x0D, 0x0E, 0x0F};
-    uint8_t book[1024], writer[SB_WRITER_LEN], out[8192];
-    uint64_t count, calls, source_len, target_len;
-    size_t i, len;
+    size_t segments = 0, len, ciphertext;
+    for (size_t i = 0; i < COUNT; i++) segments += strlen(units[i].source) + strlen(units[i].target);
+    size_t room = SB_BOOK_ROOM(COUNT, segments);
+    uint8_t *book = malloc(room);
+    if (book == NULL) return 1;
 
-    uint32_t answer = sb_start(SB_SCREAM, 10, key, sizeof key, 1, book, sizeof book, writer);
-    if (answer != 0) return refused("sb_start", answer);
-    for (i = 0; i < sizeof units / sizeof units[0]; i++) {
-        answer = sb_add(writer, book, sizeof book, (const uint8_t *)"en", (const uint8_t *)"de",
-                        (const uint8_t *)units[i].source, strlen(units[i].source),
-                        (const uint8_t *)units[i].target, strlen(units[i].target));
-        if (answer != 0) return refused("sb_add", answer);
+    uint32_t no = write_book(book, room, &len);
+    if (no == 0) {
+        printf("a book of %lu bytes\n", (unsigned long)len);
+        no = read_book(book, len);
     }
-    answer = sb_close(writer, book, sizeof book);
-    if (answer != 0) return refused("sb_close", answer);
-    len = (size_t)sb_place(writer);
-    memset(writer, 0, sizeof writer); /* it holds the key */
-    printf("a book of %lu bytes\n", (unsigned long)len);
-
-    answer = sb_check(key, sizeof key, book, len, &count, &calls);
-    if (answer != 0) return refused("sb_check", answer);
-    printf("checked: %lu units, %lu cipher calls\n", (unsigned long)count, (unsigned long)calls);
-
-    answer = sb_fetch(key, sizeof key, book, len, 1, out, sizeof out, &source_len, &target_len);
-    if (answer != 0) return refused("sb_fetch", answer);
-    printf("unit 1: %.*s = %.*s\n", (int)source_len, (const char *)out, (int)target_len, (const char *)out + source_len);
-
-    book[60] ^= 1; /* one bit of the book changed on the way */
-    answer = sb_check(key, sizeof key, book, len, &count, &calls);
-    printf("a changed bit: refusal %u: %s\n", (unsigned)answer, sb_refusal_text(answer));
-    return answer == SB_TAG_DIFFERS ? 0 : 1;
+    if (no == 0) no = read_clear(book, len, &ciphertext);
+    if (no == 0) {
+        uint64_t count, calls;
+        book[ciphertext] ^= 1; /* one bit of the book changed on the way */
+        uint32_t answer = sb_check(key, sizeof key, book, len, &count, &calls);
+        printf("a changed bit: refusal %u: %s\n", (unsigned)answer, sb_refusal_text(answer));
+        if (answer != SB_TAG_DIFFERS) no = answer + 1;
+    }
+    free(book);
+    return no == 0 ? 0 : 1;
 }

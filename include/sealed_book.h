@@ -17,6 +17,36 @@
 extern "C" {
 #endif
 
+/* The version of these declarations. It moves whenever one of them changes its meaning; an archive goes with the header of its
+ * own version only.
+ *   1  headers that do not define it
+ *   2  sb_fetch_at has one more parameter at its end, *next */
+#define SB_VERSION 2
+
+/* Lengths in bytes, and limits. */
+#define SB_KEY_LEN 16       /* a key */
+#define SB_BLOCK_LEN 16     /* a block of the ciphers, and a tweak */
+#define SB_TAG_LEN 16       /* a tag: what sb_seal writes behind the ciphertext */
+#define SB_NONCE_MAX 15     /* a nonce at most; it has 1 at least */
+#define SB_WRITER_LEN 64    /* a writer */
+#define SB_SEGMENT_MAX 4096 /* a source at most, or a target; a source has 1 at least */
+#define SB_UNIT_MAX 8192    /* source and target of a unit together at most: always enough output for a fetch */
+#define SB_UNITS_MAX 65535  /* units of a book at most */
+#define SB_CODE_LEN 2       /* what sb_add reads of each language code */
+#define SB_CODE_ROOM 4      /* room for a language code that is handed out */
+#define SB_FIRST_UNIT 16    /* where unit 0 begins in a book, or the close of a book without units */
+
+/* How many bytes of a book a unit takes, how many the close does, and how many a book takes in all that has so many units with
+ * so many bytes in their sources and targets together. */
+#define SB_UNIT_ROOM(source_len, target_len) ((size_t)33 + (size_t)(source_len) + (size_t)(target_len))
+#define SB_CLOSE_ROOM 24
+#define SB_BOOK_ROOM(units, segments_len) \
+    ((size_t)SB_FIRST_UNIT + (size_t)(units) * SB_UNIT_ROOM(0, 0) + (size_t)(segments_len) + (size_t)SB_CLOSE_ROOM)
+
+/* What sb_seal and sb_open take at most under a nonce of 1 to SB_NONCE_MAX bytes: of a header, and of a text. */
+#define SB_HEADER_MAX(nonce_len) ((size_t)1 << ((nonce_len) > 13 ? 130 - 8 * (nonce_len) : 24))
+#define SB_TEXT_MAX(nonce_len) ((size_t)1 << ((nonce_len) > 13 ? 131 - 8 * (nonce_len) : 24))
+
 /* A suite is a cipher and a step count. These eight are listed; every other pair of bytes is refused. */
 #define SB_SCREAM 1  /* steps 6, 8, 10 or 12 */
 #define SB_ISCREAM 2 /* steps 8, 10, 12 or 14 */
@@ -42,55 +72,58 @@ extern "C" {
 #define SB_UNIT_NUMBER 15     /* a unit's number is not the running one, or the close's count is not the number of units */
 #define SB_NO_UNIT 16         /* the book has no unit of that number */
 
-/* A refusal in words: a sentence of static storage, for 0 "done", and never null. */
+/* A refusal in words: a sentence of static storage, for 0 "done", and never null. The crate for Rust has the same. */
 static inline const char *sb_refusal_text(uint32_t refusal) {
     switch (refusal) {
     case 0: return "done";
-    case SB_SUITE_NOT_LISTED: return "the suite is none of the eight";
-    case SB_KEY_LENGTH: return "the key has not 16 bytes";
-    case SB_NONCE_LENGTH: return "the nonce has not 1 to 15 bytes";
-    case SB_HEADER_TOO_LONG: return "the header is over its limit";
-    case SB_SEALED_TOO_SHORT: return "the sealed bytes are under 16";
-    case SB_TEXT_TOO_LONG: return "the text is over its limit";
+    case SB_SUITE_NOT_LISTED: return "the suite is not listed: Scream has 6, 8, 10 or 12 steps, iScream 8, 10, 12 or 14";
+    case SB_KEY_LENGTH: return "the key does not have 16 bytes";
+    case SB_NONCE_LENGTH: return "the nonce does not have 1 to 15 bytes";
+    case SB_HEADER_TOO_LONG: return "the header is longer than a nonce of this length allows";
+    case SB_SEALED_TOO_SHORT: return "the sealed bytes are fewer than the 16 of a tag";
+    case SB_TEXT_TOO_LONG: return "the text is longer than a nonce of this length allows";
     case SB_OUTPUT_TOO_SHORT: return "the output has no room for the result";
-    case SB_TAG_DIFFERS: return "the tag differs: something was changed, or the key is another";
-    case SB_WRITER_INVALID: return "the writer's numbers do not go together with this buffer";
-    case SB_WRITER_CLOSED: return "the writer is closed";
-    case SB_LANGUAGES: return "the language codes are not two different pairs of letters a to z";
-    case SB_SEGMENT_LENGTH: return "the source has not 1 to 4,096 bytes, or the target has more than 4,096";
-    case SB_TOO_MANY_UNITS: return "the book has 65,535 units already";
-    case SB_FIELD_MALFORMED: return "a field has a wrong tag or length, or bytes are missing or left over";
+    case SB_TAG_DIFFERS: return "the tag differs: bytes were changed, or the key is another";
+    case SB_WRITER_INVALID: return "the writer is not valid, or its buffer is shorter than it was";
+    case SB_WRITER_CLOSED: return "the writer is closed already";
+    case SB_LANGUAGES: return "a language code is not two letters a to z, or the two codes are the same";
+    case SB_SEGMENT_LENGTH: return "the source does not have 1 to 4,096 bytes, or the target has more than 4,096";
+    case SB_TOO_MANY_UNITS: return "a book has no room for more than 65,535 units";
+    case SB_FIELD_MALFORMED: return "not a whole book: a field is malformed, or bytes are missing or left over";
     case SB_UNIT_NUMBER: return "a unit's number is not the running one, or the close's count is not that of the units";
-    case SB_NO_UNIT: return "the book has no unit of that number";
+    case SB_NO_UNIT: return "the book has no unit of this number";
     default: return "no refusal has this number";
     }
 }
 
 /* Enciphers, or deciphers, one block of 16 bytes in place, under a key and a tweak of 16 bytes each.
- * Refusal: 1. */
-uint32_t sb_encipher(uint8_t cipher, uint8_t steps, const uint8_t key[16], const uint8_t tweak[16], uint8_t block[16]);
-uint32_t sb_decipher(uint8_t cipher, uint8_t steps, const uint8_t key[16], const uint8_t tweak[16], uint8_t block[16]);
+ * Refusal: 1; then the block is as it was. */
+uint32_t sb_encipher(uint8_t cipher, uint8_t steps, const uint8_t key[SB_KEY_LEN], const uint8_t tweak[SB_BLOCK_LEN],
+                     uint8_t block[SB_BLOCK_LEN]);
+uint32_t sb_decipher(uint8_t cipher, uint8_t steps, const uint8_t key[SB_KEY_LEN], const uint8_t tweak[SB_BLOCK_LEN],
+                     uint8_t block[SB_BLOCK_LEN]);
 
 /* Enciphers, or deciphers, as many whole blocks as both slices have, each in place under its own tweak: block i stands at
  * blocks + 16 * i, its tweak at tweaks + 16 * i. All other bytes stay as they are. A slice of length 0 may be null.
- * Refusal: 1. */
-uint32_t sb_encipher_blocks(uint8_t cipher, uint8_t steps, const uint8_t key[16],
+ * Refusal: 1; then all bytes are as they were. */
+uint32_t sb_encipher_blocks(uint8_t cipher, uint8_t steps, const uint8_t key[SB_KEY_LEN],
                             const uint8_t *tweaks, size_t tweaks_len, uint8_t *blocks, size_t blocks_len);
-uint32_t sb_decipher_blocks(uint8_t cipher, uint8_t steps, const uint8_t key[16],
+uint32_t sb_decipher_blocks(uint8_t cipher, uint8_t steps, const uint8_t key[SB_KEY_LEN],
                             const uint8_t *tweaks, size_t tweaks_len, uint8_t *blocks, size_t blocks_len);
 
 /* Seals a text under a key of 16 bytes, a nonce of n = 1 to 15 bytes and a header that is sealed along and not hidden: writes
- * text_len + 16 bytes, ciphertext then tag, to the start of out, and leaves every other byte of out as it was. *len is then
- * text_len + 16, *calls the number of cipher calls made. A nonce must never be used twice under one key, and all nonces under
- * one key must have the same length.
- * Limits: header min(2^(130 - 8n), 2^24) bytes, text min(2^(131 - 8n), 2^24). A slice of length 0 may be null.
+ * text_len + SB_TAG_LEN bytes, ciphertext then tag, to the start of out, and leaves every other byte of out as it was. *len is
+ * then text_len + SB_TAG_LEN, *calls the number of cipher calls made. A nonce must never be used twice under one key, and all
+ * nonces under one key must have the same length.
+ * Limits: header min(2^(130 - 8n), 2^24) bytes, text min(2^(131 - 8n), 2^24), which are SB_HEADER_MAX(n) and SB_TEXT_MAX(n). A
+ * slice of length 0 may be null.
  * Refusals, the first that applies: 1, 2, 3, 4, 6, 7; then out, *len and *calls are as they were. */
 uint32_t sb_seal(uint8_t cipher, uint8_t steps, const uint8_t *key, size_t key_len, const uint8_t *nonce, size_t nonce_len,
                  const uint8_t *header, size_t header_len, const uint8_t *text, size_t text_len,
                  uint8_t *out, size_t out_len, uint64_t *len, uint64_t *calls);
 
-/* Opens what sb_seal has sealed under the same suite, key, nonce and header: writes the text, sealed_len - 16 bytes, to the
- * start of out, and leaves every other byte of out as it was. *len is then the text's length. Nothing is written before the
+/* Opens what sb_seal has sealed under the same suite, key, nonce and header: writes the text, sealed_len - SB_TAG_LEN bytes, to
+ * the start of out, and leaves every other byte of out as it was. *len is then the text's length. Nothing is written before the
  * tag has been compared in full. The limits are those of sb_seal. A slice of length 0 may be null.
  * Refusals, the first that applies: 1, 2, 3, 4, 5, 6, 7, 8; then out and *len are as they were. */
 uint32_t sb_open(uint8_t cipher, uint8_t steps, const uint8_t *key, size_t key_len, const uint8_t *nonce, size_t nonce_len,
@@ -103,7 +136,7 @@ uint32_t sb_open(uint8_t cipher, uint8_t steps, const uint8_t *key, size_t key_l
  * and the buffer, and lends both to each call; what stands before the writer's place must not be changed meanwhile. The book is
  * the first sb_place(writer) bytes of the buffer. A book number must never be used twice under one key.
  *
- * A book takes 16 + the sum of (33 + source_len + target_len) over its units + 24 bytes.
+ * A book takes SB_BOOK_ROOM bytes, SB_UNIT_ROOM of them for each unit.
  *
  * The writer's bytes, numbers big-endian:
  *    0      cipher
@@ -120,23 +153,25 @@ uint32_t sb_open(uint8_t cipher, uint8_t steps, const uint8_t *key, size_t key_l
  * sb_start leaves, are a closed writer, and sb_add and sb_close refuse it with 9. The writer holds the key: clear it when the book
  * is done.
  */
-#define SB_WRITER_LEN 64
 
-/* Starts a book under a suite, a key of 16 bytes and a book number: writes 16 bytes to the start of buf, and leaves every other
- * byte of buf as it was. A slice of length 0 may be null.
+/* Starts a book under a suite, a key of 16 bytes and a book number: writes SB_FIRST_UNIT bytes to the start of buf, leaves every
+ * other byte of buf as it was, and makes the writer, whatever its 64 bytes were. A slice of length 0 may be null.
  * Refusals, the first that applies: 1, 2, 7; then buf is as it was, and the writer's 64 bytes are 0: a closed writer. */
 uint32_t sb_start(uint8_t cipher, uint8_t steps, const uint8_t *key, size_t key_len, uint64_t number,
                   uint8_t *buf, size_t buf_len, uint8_t writer[SB_WRITER_LEN]);
 
-/* Adds a unit: from and to are its language codes, two letters a to z each. Writes 33 + source_len + target_len bytes at the
- * writer's place, leaves every other byte of buf as it was, and moves the writer on: place, unit count and call total. A slice
+/* Adds a unit: from and to are its language codes, two letters a to z each. Writes SB_UNIT_ROOM(source_len, target_len) bytes at
+ * the writer's place, leaves every other byte of buf as it was, and moves the writer on: place, unit count and call total. A slice
  * of length 0 may be null.
+ * Exactly SB_CODE_LEN bytes of each code are read, whatever follows them: a string of fewer letters would be read past its end,
+ * and one of more is cut without a word, "deu" to "de". Test strlen(code) == SB_CODE_LEN where a code comes from outside.
  * Refusals, the first that applies: 9, 10, 11, 12, 13, 7; then buf and writer are as they were. */
-uint32_t sb_add(uint8_t writer[SB_WRITER_LEN], uint8_t *buf, size_t buf_len, const uint8_t from[2], const uint8_t to[2],
+uint32_t sb_add(uint8_t writer[SB_WRITER_LEN], uint8_t *buf, size_t buf_len,
+                const uint8_t from[SB_CODE_LEN], const uint8_t to[SB_CODE_LEN],
                 const uint8_t *source, size_t source_len, const uint8_t *target, size_t target_len);
 
-/* Closes the book: writes 24 bytes at the writer's place, leaves every other byte of buf as it was, moves the writer's place and
- * call total on and closes it. A slice of length 0 may be null.
+/* Closes the book: writes SB_CLOSE_ROOM bytes at the writer's place, leaves every other byte of buf as it was, moves the writer's
+ * place and call total on and closes it. A slice of length 0 may be null.
  * Refusals, the first that applies: 9, 10, 7; then buf and writer are as they were. */
 uint32_t sb_close(uint8_t writer[SB_WRITER_LEN], uint8_t *buf, size_t buf_len);
 
@@ -151,30 +186,58 @@ uint32_t sb_check(const uint8_t *key, size_t key_len, const uint8_t *book, size_
 
 /* Fetches unit k, from 0, under the book's key of 16 bytes: walks past the units before it without opening them, opens unit k, and
  * writes its source and then its target to the start of out; every other byte of out stays as it was. *source_len and
- * *target_len are then their lengths. 8,192 bytes of out are always enough. Nothing is written before the tag has been compared
- * in full. The book need not have been checked: of the units before k only the fields, numbers and languages are looked at, and
- * nothing behind k. A slice of length 0 may be null.
+ * *target_len are then their lengths. SB_UNIT_MAX bytes of out are always enough. Nothing is written before the tag has been
+ * compared in full. The book need not have been checked: of the units before k only the fields, numbers and languages are looked
+ * at, and nothing behind k. A slice of length 0 may be null.
  * Refusals, the first that applies in the order of the bytes: 2; 14 of the opening fields; 1; of each unit before k 14, 13, 15, 11,
  * 14 as in sb_check; of unit k these, then 8, 12, and 7; where the close is met, 14, 15, 8, 14 as in sb_check, then 16. Then out,
  * *source_len and *target_len are as they were. */
 uint32_t sb_fetch(const uint8_t *key, size_t key_len, const uint8_t *book, size_t book_len, uint64_t k,
                   uint8_t *out, size_t out_len, uint64_t *source_len, uint64_t *target_len);
 
-/* The same of unit `number` where its fields begin at byte `at` of the book, for going from one unit to the next without a walk:
- * unit 0 begins at 16, the next one 33 + *source_len + *target_len bytes further, in the books of this version. Any place may be
- * given; what stands there is read as unit `number`, or as the close.
- * Refusals: those of sb_fetch without the units before k. */
+/* The same of unit `number` where its fields begin at byte `at` of the book, without a walk; *next is then where the next unit
+ * begins, or the close. So a book is gone over in time linear in its length:
+ *     for (k = 0, at = SB_FIRST_UNIT; (no = sb_fetch_at(.., k, (size_t)at, .., &at)) == 0; k++) ..
+ * ends with SB_NO_UNIT at the close of a whole book. Any place may be given, also one past the end, which is as the end; what
+ * stands there is read as unit `number`, or as the close. Only the opening fields are looked at besides.
+ * Refusals: those of sb_fetch without the units before k. Then out, *source_len, *target_len and *next are as they were. */
 uint32_t sb_fetch_at(const uint8_t *key, size_t key_len, const uint8_t *book, size_t book_len, uint64_t number, size_t at,
-                     uint8_t *out, size_t out_len, uint64_t *source_len, uint64_t *target_len);
+                     uint8_t *out, size_t out_len, uint64_t *source_len, uint64_t *target_len, uint64_t *next);
 
-/* Where the ciphertext of unit k stands in the book: *len bytes from byte *at on. No key is needed, and nothing is opened. *at and
- * *len are 0 where there is no unit k, or where sb_fetch would refuse the opening fields, a unit before k, or the fields, number
- * or languages of k. The unit's language codes stand in the clear 7 bytes before its ciphertext, two bytes each. No seal is
- * tested: that these bytes are a writer's is known only once sb_fetch or sb_check has accepted them. A slice of length 0 may be
- * null. */
+/* What a book says in the clear.
+ *
+ * These four need no key and open nothing. No seal is tested: that what they give is a writer's is known only once sb_check has
+ * accepted the book, or sb_fetch or sb_fetch_at the unit. A slice of length 0 may be null.
+ */
+
+/* Suite and book number, of the opening fields: *cipher, *steps and *number. Nothing behind these fields is looked at,
+ * and no seal is tested.
+ * Refusals, the first that applies: 14 of the opening fields, 1; then *cipher, *steps and *number are as they were. */
+uint32_t sb_info(const uint8_t *book, size_t book_len, uint8_t *cipher, uint8_t *steps, uint64_t *number);
+
+/* Of unit `number`, whose fields begin at byte `at` of the book: its language codes, *from_len letters in from and *to_len in to,
+ * zeros behind them up to SB_CODE_ROOM bytes; its ciphertext, *ciphertext_len bytes from byte *ciphertext_at of the book on, 2 more
+ * than source and target have together; and *next, where the next unit begins, or the close. Any place may be given, as with sb_fetch_at. No seal is tested.
+ * Refusals, the first that applies: 14 of the opening fields, 1; of what stands at the place 14, 13, 15, 11, 14 as in sb_fetch of a
+ * unit; where it begins as a close does, 14 of the close's fields, 15, then 16, whatever stands behind it. Then everything that
+ * was lent is as it was. */
+uint32_t sb_unit_at(const uint8_t *book, size_t book_len, uint64_t number, size_t at,
+                    uint8_t from[SB_CODE_ROOM], uint64_t *from_len, uint8_t to[SB_CODE_ROOM], uint64_t *to_len,
+                    uint64_t *ciphertext_at, uint64_t *ciphertext_len, uint64_t *next);
+
+/* The same of unit k, from 0, which is found by a walk past the units before it; *at is then where its fields begin. No
+ * seal is tested.
+ * Refusals, the first that applies: 14 of the opening fields, 1; of each unit up to k 14, 13, 15, 11, 14; where the close is met,
+ * 14 of its fields, 15, then 16. Then everything that was lent is as it was. */
+uint32_t sb_unit(const uint8_t *book, size_t book_len, uint64_t k, uint64_t *at,
+                 uint8_t from[SB_CODE_ROOM], uint64_t *from_len, uint8_t to[SB_CODE_ROOM], uint64_t *to_len,
+                 uint64_t *ciphertext_at, uint64_t *ciphertext_len, uint64_t *next);
+
+/* Where the ciphertext of unit k stands in the book, found by a walk: *len bytes from byte *at on. *at and *len are 0 where sb_unit
+ * would refuse. No seal is tested. */
 void sb_ciphertext(const uint8_t *book, size_t book_len, uint64_t k, uint64_t *at, uint64_t *len);
 
-/* The writer's place, unit count and call total. */
+/* The writer's place, unit count and call total, of any 64 bytes. Nothing is refused. */
 uint64_t sb_place(const uint8_t writer[SB_WRITER_LEN]);
 uint64_t sb_units(const uint8_t writer[SB_WRITER_LEN]);
 uint64_t sb_calls(const uint8_t writer[SB_WRITER_LEN]);

@@ -2,21 +2,33 @@
 
 use std::fmt;
 use std::iter::FusedIterator;
+use std::sync::OnceLock;
 
 use crate::secret::Secret;
-use crate::{ciphertext, fetch, raw, Refusal, Suite, Unit};
+use crate::{info, raw, Info, Refusal, Suite, Unit};
 
-/// Where unit 0 stands: behind the opening fields.
-const FIRST: usize = 16;
-
-/// A book that was checked as a whole, with its key. It borrows the bytes, which cannot be changed
-/// meanwhile.
+/// A book that was checked as a whole, with its key and its bytes: `B` is a `Vec<u8>`, a `&[u8]`, an
+/// `Arc<[u8]>`, or whatever else lends bytes.
 ///
 /// That there is a `Book` says that a [`Writer`](crate::Writer) under this key has left these bytes, from
 /// the first to the last: no unit is missing, doubled, moved or exchanged, and nothing stands behind the
 /// close.
 ///
 /// The key is copied, and the copy cleared when the book is dropped.
+///
+/// # Time and memory
+///
+/// Where its units begin is noted by one walk over the book, when [`fetch`](Book::fetch) or
+/// [`ciphertext`](Book::ciphertext) is first called. It takes 8 bytes a unit. Each fetch then takes the
+/// time of its own unit, wherever that stands. [`iter`](Book::iter) goes from one unit to the next and notes
+/// nothing.
+///
+/// # Bytes that change
+///
+/// `B` has to lend the same bytes whenever it is asked, as vectors, slices and the pointers of the standard
+/// library do. One that lends others later makes the book's answers those of the bytes that it lends then:
+/// a fetch hands out a unit only where its seal is right under this key, and else refuses, by any refusal
+/// that [`fetch`](crate::fetch()) can give. It does not panic, and nothing outside the bytes is read.
 ///
 /// ```
 /// use sealed_book::{Book, Suite, Unit, Writer};
@@ -28,7 +40,7 @@ const FIRST: usize = 16;
 /// writer.add("en", "de", "pump", "Pumpe")?;
 /// let bytes = writer.close()?;
 ///
-/// let book = Book::check(&key, &bytes)?;
+/// let book = Book::check(&key, bytes)?;
 /// assert_eq!((book.number(), book.suite(), book.len()), (7, Suite::SCREAM_10, 2));
 /// assert_eq!(book.fetch(1)?.source, b"pump");
 /// let units: Vec<Unit> = book.iter().collect::<Result<_, _>>()?;
@@ -37,16 +49,18 @@ const FIRST: usize = 16;
 /// # }
 /// ```
 #[derive(Clone)]
-pub struct Book<'a> {
+pub struct Book<B> {
     key: Secret<16>,
-    bytes: &'a [u8],
-    suite: Suite,
-    number: u64,
+    bytes: B,
+    info: Info,
     units: u64,
     calls: u64,
+    /// Where each unit begins, once that was asked for; a refusal where the bytes are not those that were
+    /// checked.
+    places: OnceLock<Result<Box<[usize]>, Refusal>>,
 }
 
-impl<'a> Book<'a> {
+impl<B: AsRef<[u8]>> Book<B> {
     /// Checks the bytes as a whole book under this key. Every unit is opened, and none kept.
     ///
     /// # Errors
@@ -57,30 +71,28 @@ impl<'a> Book<'a> {
     /// [`Refusal::FieldMalformed`] of the rest, [`Refusal::TagDiffers`], and [`Refusal::SegmentLength`] for
     /// what no writer makes; of the close [`Refusal::FieldMalformed`], [`Refusal::NumberOutOfOrder`],
     /// [`Refusal::TagDiffers`], and [`Refusal::FieldMalformed`] for bytes behind it.
-    pub fn check(key: &[u8; 16], bytes: &'a [u8]) -> Result<Book<'a>, Refusal> {
-        let raw::Checked { units, calls } = raw::check(key, bytes)?;
-        // tag and length of field 01, the number, tag and length of field 02, the suite
-        let mut number = [0; 8];
-        number.copy_from_slice(&bytes[3..11]);
-        let suite = Suite::from_bytes([bytes[14], bytes[15]])?;
+    pub fn check(key: &[u8; 16], bytes: B) -> Result<Book<B>, Refusal> {
+        let lent = bytes.as_ref();
+        let raw::Checked { units, calls } = raw::check(key, lent)?;
+        let info = info(lent)?;
         Ok(Book {
             key: Secret(*key),
             bytes,
-            suite,
-            number: u64::from_be_bytes(number),
+            info,
             units,
             calls,
+            places: OnceLock::new(),
         })
     }
 
     /// The suite it is sealed under.
     pub fn suite(&self) -> Suite {
-        self.suite
+        self.info.suite
     }
 
     /// Its number.
     pub fn number(&self) -> u64 {
-        self.number
+        self.info.number
     }
 
     /// How many units it has, 0 to 65,535.
@@ -99,49 +111,80 @@ impl<'a> Book<'a> {
     }
 
     /// Its bytes.
-    pub fn bytes(&self) -> &'a [u8] {
+    pub fn bytes(&self) -> &[u8] {
+        self.bytes.as_ref()
+    }
+
+    /// Gives back what [`check`](Book::check) has taken.
+    pub fn into_bytes(self) -> B {
         self.bytes
     }
 
-    /// Opens unit `k`; the first one is unit 0. It is found by a walk over the units before it, so that
-    /// [`iter`](Book::iter) is the way to go over many.
+    /// Opens unit `k`; the first one is unit 0.
     ///
     /// # Errors
     ///
     /// [`Refusal::NoSuchUnit`] where `k` is not below [`len`](Book::len).
     pub fn fetch(&self, k: u64) -> Result<Unit, Refusal> {
-        fetch(&self.key.0, self.bytes, k)
+        let bytes = self.bytes();
+        Unit::open(&self.key.0, bytes, k, &self.fields(bytes, k)?)
     }
 
     /// The ciphertext of unit `k`, unopened, as a part of the book's bytes; `None` where `k` is not below
     /// [`len`](Book::len). It has two bytes more than source and target together.
-    pub fn ciphertext(&self, k: u64) -> Option<&'a [u8]> {
-        ciphertext(self.bytes, k)
+    pub fn ciphertext(&self, k: u64) -> Option<&[u8]> {
+        let bytes = self.bytes();
+        let fields = self.fields(bytes, k).ok()?;
+        Some(&bytes[fields.ciphertext])
     }
 
     /// All units in order, each opened when its turn comes, in time linear in the book's length.
     pub fn iter(&self) -> Units<'_> {
         Units {
-            book: self,
+            key: &self.key,
+            bytes: self.bytes(),
             next: 0,
-            at: FIRST,
+            units: self.units,
+            at: raw::FIRST_UNIT,
         }
+    }
+
+    /// What the fields of unit `k` say, which stand at the place that is noted.
+    fn fields(&self, bytes: &[u8], k: u64) -> Result<raw::Unit, Refusal> {
+        if k >= self.units {
+            return Err(Refusal::NoSuchUnit);
+        }
+        let places = self.places.get_or_init(|| places(bytes, self.units));
+        let places = places.as_ref().map_err(|refusal| *refusal)?;
+        let place = usize::try_from(k).ok().and_then(|k| places.get(k));
+        raw::unit_at(bytes, k, *place.ok_or(Refusal::NoSuchUnit)?)
     }
 }
 
+/// Where each of so many units begins.
+fn places(book: &[u8], units: u64) -> Result<Box<[usize]>, Refusal> {
+    let mut places = Vec::with_capacity(usize::try_from(units).unwrap_or(0));
+    let mut at = raw::FIRST_UNIT;
+    for number in 0..units {
+        places.push(at);
+        at = raw::unit_at(book, number, at)?.next;
+    }
+    Ok(places.into_boxed_slice())
+}
+
 /// Does not show the key.
-impl fmt::Debug for Book<'_> {
+impl<B> fmt::Debug for Book<B> {
     fn fmt(&self, f: &mut fmt::Formatter) -> fmt::Result {
         f.debug_struct("Book")
-            .field("suite", &self.suite)
-            .field("number", &self.number)
+            .field("suite", &self.info.suite)
+            .field("number", &self.info.number)
             .field("units", &self.units)
             .field("calls", &self.calls)
             .finish_non_exhaustive()
     }
 }
 
-impl<'b> IntoIterator for &'b Book<'_> {
+impl<'b, B: AsRef<[u8]>> IntoIterator for &'b Book<B> {
     type Item = Result<Unit, Refusal>;
     type IntoIter = Units<'b>;
 
@@ -154,36 +197,54 @@ impl<'b> IntoIterator for &'b Book<'_> {
 ///
 /// Since the book was checked and its bytes are lent, each is `Ok`. The bytes must not change while they
 /// are lent, as those of a mapped file could.
-#[derive(Clone, Debug)]
+#[derive(Clone)]
 pub struct Units<'b> {
-    book: &'b Book<'b>,
-    /// The next unit's number.
+    key: &'b Secret<16>,
+    bytes: &'b [u8],
+    /// The next unit's number, and how many there are.
     next: u64,
-    /// Where its header stands.
+    units: u64,
+    /// Where the next unit begins.
     at: usize,
+}
+
+impl Units<'_> {
+    /// Opens the next unit, and goes behind it.
+    fn open(&mut self) -> Result<Unit, Refusal> {
+        let fields = raw::unit_at(self.bytes, self.next, self.at)?;
+        let unit = Unit::open(&self.key.0, self.bytes, self.next, &fields)?;
+        self.at = fields.next;
+        Ok(unit)
+    }
+}
+
+/// Does not show the key.
+impl fmt::Debug for Units<'_> {
+    fn fmt(&self, f: &mut fmt::Formatter) -> fmt::Result {
+        f.debug_struct("Units")
+            .field("next", &self.next)
+            .field("units", &self.units)
+            .finish_non_exhaustive()
+    }
 }
 
 impl Iterator for Units<'_> {
     type Item = Result<Unit, Refusal>;
 
     fn next(&mut self) -> Option<Result<Unit, Refusal>> {
-        let book = self.book;
-        if self.next == book.units {
+        if self.next == self.units {
             return None;
         }
-        let unit = Unit::at(&book.key.0, book.bytes, self.next, self.at);
-        match &unit {
-            Ok(unit) => {
-                self.next += 1;
-                self.at += unit.len();
-            }
-            Err(_) => self.next = book.units,
-        }
+        let unit = self.open();
+        self.next = match unit {
+            Ok(_) => self.next + 1,
+            Err(_) => self.units,
+        };
         Some(unit)
     }
 
     fn size_hint(&self) -> (usize, Option<usize>) {
-        let left = usize::try_from(self.book.units - self.next).expect("at most 65,535");
+        let left = usize::try_from(self.units - self.next).expect("at most 65,535");
         (left, Some(left))
     }
 }
@@ -210,7 +271,7 @@ mod tests {
 
         // the last byte of unit 1's tag
         let mut changed = bytes.clone();
-        changed[16 + 2 * (33 + 3) - 1] ^= 1;
+        changed[raw::unit(&bytes, 1).unwrap().next - 1] ^= 1;
         let book = Book {
             bytes: &changed,
             ..book.clone()

@@ -1,11 +1,9 @@
 //! Fetching from bytes that were not checked.
 
-use crate::unit::BEFORE;
 use crate::{raw, Refusal, Unit};
 
-/// Fetches unit `k` from a book that was not checked as a whole. Opens this one unit and nothing else
-/// besides, so that it is quick in a long book; [`Book::fetch`](crate::Book::fetch) is for one that was
-/// checked.
+/// Fetches unit `k` from a book that was not checked as a whole. Walks to this one unit and opens nothing
+/// else besides; [`Book::fetch`](crate::Book::fetch) is for one that was checked, and does not walk.
 ///
 /// What is tested then:
 /// - the opening fields, and of each unit before `k` that it is framed as a unit, has the running number
@@ -47,36 +45,13 @@ use crate::{raw, Refusal, Unit};
 /// # }
 /// ```
 pub fn fetch(key: &[u8; 16], book: &[u8], k: u64) -> Result<Unit, Refusal> {
-    let ciphertext = raw::ciphertext(book, k);
-    if ciphertext.is_empty() {
-        let refused = raw::fetch(key, book, k, &mut []);
-        return Err(refused.expect_err("the walk is refused, or there is no unit k"));
+    match raw::unit(book, k) {
+        Ok(fields) => Unit::open(key, book, k, &fields),
+        // the close was met: its seal is tested still, and that nothing stands behind it
+        Err(Refusal::NoSuchUnit) => match raw::fetch(key, book, k, &mut []) {
+            Err(refusal) => Err(refusal),
+            Ok(_) => Err(Refusal::NoSuchUnit),
+        },
+        Err(refusal) => Err(refusal),
     }
-    Unit::at(key, book, k, ciphertext.start - BEFORE)
-}
-
-/// The ciphertext of unit `k`, unopened, as a part of the bytes that were given; `None` where there is no
-/// unit `k`, or where it cannot be come to: the opening fields, a unit before `k`, or the framing, number
-/// or languages of `k` would be refused. No key is needed, and no seal is tested: these are the bytes
-/// that stand there, whoever has put them there.
-///
-/// The ciphertext has two bytes more than source and target together.
-///
-/// ```
-/// use sealed_book::{ciphertext, Suite, Writer};
-///
-/// # fn main() -> Result<(), sealed_book::Refusal> {
-/// # let key = [7; 16];
-/// let mut writer = Writer::start(Suite::SCREAM_10, &key, 7)?;
-/// writer.add("en", "de", "valve", "Ventil")?;
-/// let book = writer.close()?;
-///
-/// assert_eq!(ciphertext(&book, 0), Some(&book[28..41]));
-/// assert_eq!(ciphertext(&book, 1), None);
-/// # Ok(())
-/// # }
-/// ```
-pub fn ciphertext(book: &[u8], k: u64) -> Option<&[u8]> {
-    let place = raw::ciphertext(book, k);
-    (!place.is_empty()).then(|| &book[place])
 }

@@ -141,6 +141,46 @@ extern "C" {
         out_len: usize,
         source_len: *mut u64,
         target_len: *mut u64,
+        next: *mut u64,
+    ) -> u32;
+
+    /// Suite and book number.
+    pub fn sb_info(
+        book: *const u8,
+        book_len: usize,
+        cipher: *mut u8,
+        steps: *mut u8,
+        number: *mut u64,
+    ) -> u32;
+
+    /// What the fields at a place say of the unit of this number.
+    pub fn sb_unit_at(
+        book: *const u8,
+        book_len: usize,
+        number: u64,
+        at: usize,
+        from: *mut u8,
+        from_len: *mut u64,
+        to: *mut u8,
+        to_len: *mut u64,
+        ciphertext_at: *mut u64,
+        ciphertext_len: *mut u64,
+        next: *mut u64,
+    ) -> u32;
+
+    /// The same of unit `k`, with a walk over the units before it.
+    pub fn sb_unit(
+        book: *const u8,
+        book_len: usize,
+        k: u64,
+        at: *mut u64,
+        from: *mut u8,
+        from_len: *mut u64,
+        to: *mut u8,
+        to_len: *mut u64,
+        ciphertext_at: *mut u64,
+        ciphertext_len: *mut u64,
+        next: *mut u64,
     ) -> u32;
 
     /// Where unit `k`'s ciphertext stands.

@@ -18,8 +18,8 @@
 //! writer.add("en", "de", "Close the valve.", "")?;
 //! let bytes = writer.close()?;
 //!
-//! // all of it is checked, and refused if a single bit is another
-//! let book = Book::check(&key, &bytes)?;
+//! // all of it is checked, and refused if a single bit is another; the book keeps its bytes
+//! let book = Book::check(&key, bytes)?;
 //! assert_eq!(book.len(), 3);
 //!
 //! // one unit
@@ -37,8 +37,8 @@
 //! # }
 //! ```
 //!
-//! What is not checked as a whole can be fetched from, too: [`fetch`] and [`ciphertext`] say what is tested
-//! then. [`seal`] and [`open`] do a single text. What a call turns down it refuses with a [`Refusal`], and
+//! What is not checked as a whole can be fetched from, too: [`fetch`] says what is tested then. [`info`] and
+//! [`clear_unit`] read what stands in the clear, without the key. [`seal`] and [`open`] do a single text. What a call turns down it refuses with a [`Refusal`], and
 //! leaves everything as it was.
 //!
 //! # What stands below
@@ -50,13 +50,14 @@
 //!
 //! # Building
 //!
-//! The build script proves the library and has it built, which needs the Rattle kit (`rt`). Where the
-//! variable `SEALED_BOOK_LIB` names a folder, the archive `libsealed_book.a` there is linked instead. It is
-//! for x86-64 Linux.
+//! The build script proves the library and has its archive put among cargo's own output, which needs the
+//! Rattle kit (`rt`) and `ar`. Where the variable `SEALED_BOOK_LIB` has the absolute path of a folder, the
+//! archive `libsealed_book.a` there is linked instead. It is for x86-64 Linux.
 
 #![deny(missing_docs)]
 
 mod book;
+mod clear;
 mod fetching;
 pub mod foreign;
 pub mod raw;
@@ -68,7 +69,8 @@ mod unit;
 mod writer;
 
 pub use book::{Book, Units};
-pub use fetching::{ciphertext, fetch};
+pub use clear::{ciphertext, clear_unit, info, ClearUnit, Info};
+pub use fetching::fetch;
 pub use refusal::Refusal;
 pub use sealing::{open, seal};
 pub use suite::{Cipher, Suite};

@@ -2,16 +2,13 @@
 
 use crate::{raw, Refusal, Suite};
 
-/// How many bytes a tag has.
-const TAG: usize = 16;
-
 /// Seals a text under a suite, a key and a nonce, and a header along with it, which is not hidden. Returns
 /// the ciphertext, which is as long as the text, and behind it the tag of 16 bytes.
 ///
 /// A nonce has n = 1 to 15 bytes. It must never be used twice under one key, and all nonces under one key
 /// must have the same length. The units of a book are sealed with nonces of 12 bytes, its number first: a
 /// key that is used for books is best used for nothing else. The header may have min(2^(130 − 8n), 2^24)
-/// bytes, the text min(2^(131 − 8n), 2^24).
+/// bytes, the text min(2^(131 − 8n), 2^24): [`raw::header_max`] and [`raw::text_max`].
 ///
 /// # Errors
 ///
@@ -39,7 +36,7 @@ pub fn seal(
     text: &[u8],
 ) -> Result<Vec<u8>, Refusal> {
     let [cipher, steps] = suite.to_bytes();
-    let mut out = vec![0; text.len() + TAG];
+    let mut out = vec![0; text.len() + raw::TAG_LEN];
     raw::seal(cipher, steps, key, nonce, header, text, &mut out)?;
     Ok(out)
 }
@@ -59,7 +56,7 @@ pub fn open(
     sealed: &[u8],
 ) -> Result<Vec<u8>, Refusal> {
     let [cipher, steps] = suite.to_bytes();
-    let mut out = vec![0; sealed.len().saturating_sub(TAG)];
+    let mut out = vec![0; sealed.len().saturating_sub(raw::TAG_LEN)];
     raw::open(cipher, steps, key, nonce, header, sealed, &mut out)?;
     Ok(out)
 }

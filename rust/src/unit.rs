@@ -1,25 +1,17 @@
 //! A unit of a book, opened.
 
+use std::fmt;
 use std::str::{self, Utf8Error};
 
 use crate::{raw, Refusal};
 
-/// How many bytes of a unit stand before its ciphertext: its header, and tag and length of the ciphertext.
-pub(crate) const BEFORE: usize = 12;
-
-/// How many bytes a unit takes besides source and target.
-const AROUND: usize = 33;
-
-/// How many bytes source and target have together at most.
-const MOST: usize = 2 * 4_096;
-
 /// A unit that was fetched: a source, its target, and the languages of the two.
-#[derive(Clone, Debug, PartialEq, Eq, Hash)]
+#[derive(Clone, PartialEq, Eq, Hash)]
 #[non_exhaustive]
 pub struct Unit {
-    /// The languages' codes, letters a to z.
-    from: [u8; 2],
-    to: [u8; 2],
+    number: u64,
+    from: raw::Code,
+    to: raw::Code,
     /// The source, 1 to 4,096 bytes.
     pub source: Vec<u8>,
     /// The target, 0 to 4,096 bytes.
@@ -27,14 +19,19 @@ pub struct Unit {
 }
 
 impl Unit {
+    /// Its number in the book; the first one is unit 0.
+    pub fn number(&self) -> u64 {
+        self.number
+    }
+
     /// The code of the source's language, as `en`.
     pub fn source_language(&self) -> &str {
-        str::from_utf8(&self.from).expect("letters a to z")
+        self.from.as_str()
     }
 
     /// The code of the target's language.
     pub fn target_language(&self) -> &str {
-        str::from_utf8(&self.to).expect("letters a to z")
+        self.to.as_str()
     }
 
     /// The source as text.
@@ -55,23 +52,35 @@ impl Unit {
         str::from_utf8(&self.target)
     }
 
-    /// Opens the unit of this number, whose header stands at this place.
-    pub(crate) fn at(key: &[u8; 16], book: &[u8], number: u64, at: usize) -> Result<Unit, Refusal> {
-        let mut out = [0; MOST];
-        let lengths = raw::fetch_at(key, book, number, at, &mut out)?;
+    /// Opens the unit of this number, whose fields in the book say this.
+    pub(crate) fn open(
+        key: &[u8; 16],
+        book: &[u8],
+        number: u64,
+        fields: &raw::Unit,
+    ) -> Result<Unit, Refusal> {
+        let mut out = [0; raw::UNIT_MAX];
+        let lengths = raw::fetch_at(key, book, number, fields.at, &mut out)?.lengths;
         let (source, rest) = out.split_at(lengths.source);
-        // the header is a tag, a length of two bytes, a number of two, and the codes
-        let code = |at: usize| [book[at], book[at + 1]];
         Ok(Unit {
-            from: code(at + 5),
-            to: code(at + 7),
+            number,
+            from: fields.from,
+            to: fields.to,
             source: source.to_vec(),
             target: rest[..lengths.target].to_vec(),
         })
     }
+}
 
-    /// How many bytes it takes in a book.
-    pub(crate) fn len(&self) -> usize {
-        AROUND + self.source.len() + self.target.len()
+/// Shows how long source and target are, and not the texts.
+impl fmt::Debug for Unit {
+    fn fmt(&self, f: &mut fmt::Formatter) -> fmt::Result {
+        f.debug_struct("Unit")
+            .field("number", &self.number)
+            .field("from", &self.from)
+            .field("to", &self.to)
+            .field("source_len", &self.source.len())
+            .field("target_len", &self.target.len())
+            .finish_non_exhaustive()
     }
 }

@@ -6,9 +6,6 @@ use std::mem;
 use crate::secret::Secret;
 use crate::{raw, Refusal, Suite};
 
-/// How many bytes the opening fields take.
-const OPENING: usize = 16;
-
 /// How many bytes of memory a writer starts with.
 const FIRST: usize = 1_024;
 
@@ -29,7 +26,7 @@ const FIRST: usize = 1_024;
 /// writer or a call of the library has left on the stack are not cleared.
 ///
 /// ```
-/// use sealed_book::{Refusal, Suite, Writer};
+/// use sealed_book::{raw, Refusal, Suite, Writer};
 ///
 /// # fn main() -> Result<(), Refusal> {
 /// # let key = [7; 16];
@@ -38,7 +35,7 @@ const FIRST: usize = 1_024;
 /// assert_eq!(writer.add("en", "en", "valve", "valve"), Err(Refusal::LanguagesNotAllowed));
 /// assert_eq!(writer.add("en", "fr", "valve", "vanne"), Ok(1));
 /// let book = writer.close()?;
-/// assert_eq!(book.len(), 16 + (33 + 5 + 6) + (33 + 5 + 5) + 24);
+/// assert_eq!(book.len(), raw::book_room(2, "valveVentil".len() + "valvevanne".len()));
 /// # Ok(())
 /// # }
 /// ```
@@ -59,8 +56,8 @@ impl Writer {
         Writer::with_capacity(suite, key, number, FIRST)
     }
 
-    /// The same, with memory for a book of so many bytes: 16, for each unit 33 and those of source and
-    /// target, and 24 for the close. A longer book can still be written.
+    /// The same, with memory for a book of so many bytes, which [`raw::book_room`] gives. A longer book can
+    /// still be written.
     ///
     /// # Errors
     ///
@@ -73,7 +70,7 @@ impl Writer {
     ) -> Result<Writer, Refusal> {
         let mut writer = Writer {
             bytes: Secret([0; raw::LEN]),
-            buffer: vec![0; capacity.max(OPENING)],
+            buffer: vec![0; capacity.max(raw::FIRST_UNIT)],
         };
         let [cipher, steps] = suite.to_bytes();
         let Writer { bytes, buffer } = &mut writer;
@@ -131,7 +128,7 @@ impl Writer {
         raw::calls(&self.bytes.0)
     }
 
-    /// How many bytes are written, 16 at least.
+    /// How many bytes are written, [`raw::FIRST_UNIT`] at least.
     #[allow(clippy::len_without_is_empty)]
     pub fn len(&self) -> usize {
         usize::try_from(raw::place(&self.bytes.0)).expect("within the buffer")

@@ -11,12 +11,12 @@ use sealed_book::{Book, Suite};
 const SEED: u64 = 0x5345_434F;
 
 /// The units of a checked book are those of the second implementation's.
-fn assert_units(book: &Book, second: &second::Book, name: &str) {
+fn assert_units<B: AsRef<[u8]>>(book: &Book<B>, second: &second::Book, name: &str) {
     assert_eq!(book.len(), second.units.len() as u64, "{name}");
     for (k, (unit, added)) in book.iter().zip(&second.units).enumerate() {
         let name = format!("unit {k}, {name}");
-        assert_unit(&unit.unwrap(), added, &name);
-        assert_unit(&book.fetch(k as u64).unwrap(), added, &name);
+        assert_unit(&unit.unwrap(), k, added, &name);
+        assert_unit(&book.fetch(k as u64).unwrap(), k, added, &name);
     }
 }
 

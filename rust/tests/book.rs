@@ -2,13 +2,16 @@
 
 mod common;
 
-use common::{assert_unit, book, lengths, places, suite, written};
-use reference::book as second;
+use std::cell::Cell;
+use std::sync::Arc;
+
+use common::{assert_unit, book, lengths, suite, written};
+use reference::book::{self as second, places, CIPHERTEXT};
 use reference::random::Random;
 use sealed_book::Refusal::{
     FieldMalformed, LanguagesNotAllowed, NoSuchUnit, NumberOutOfOrder, SuiteNotListed, TagDiffers,
 };
-use sealed_book::{ciphertext, fetch, raw, Book, Refusal, Suite};
+use sealed_book::{ciphertext, clear_unit, fetch, info, raw, Book, Refusal, Suite};
 
 const SEED: u64 = 0x424F_4F4B;
 
@@ -17,6 +20,8 @@ fn assert_reads(given: &second::Book, bytes: &[u8], name: &str) {
     let book = Book::check(&given.key, bytes).unwrap();
     let count = given.units.len();
     assert_eq!((book.number(), book.suite()), (given.number, suite(given)));
+    let info = info(bytes).unwrap();
+    assert_eq!((info.number, info.suite), (book.number(), book.suite()));
     assert_eq!((book.len(), book.is_empty()), (count as u64, count == 0));
     assert_eq!(book.bytes().as_ptr_range(), bytes.as_ptr_range());
     // a header of 25 bytes, the text with the two bytes of its source's length, a tag; and the close
@@ -32,7 +37,7 @@ fn assert_reads(given: &second::Book, bytes: &[u8], name: &str) {
     for (k, added) in given.units.iter().enumerate() {
         assert_eq!(units.len(), count - k, "{name}");
         let unit = units.next().expect("one more").unwrap();
-        assert_unit(&unit, added, &format!("{k} in order, {name}"));
+        assert_unit(&unit, k, added, &format!("{k} in order, {name}"));
     }
     assert_eq!((units.len(), units.next(), units.next()), (0, None, None));
     assert_eq!((&book).into_iter().count(), count, "{name}");
@@ -41,7 +46,13 @@ fn assert_reads(given: &second::Book, bytes: &[u8], name: &str) {
     for (k, added) in given.units.iter().enumerate() {
         let name = format!("{k} of {name}");
         let unit = book.fetch(k as u64).unwrap();
-        assert_unit(&unit, added, &name);
+        assert_unit(&unit, k, added, &name);
+        let clear = clear_unit(bytes, k as u64).unwrap();
+        assert_eq!(clear.number(), unit.number(), "{name}");
+        assert_eq!(clear.source_language(), unit.source_language(), "{name}");
+        assert_eq!(clear.target_language(), unit.target_language(), "{name}");
+        let parts = [book.ciphertext(k as u64), ciphertext(bytes, k as u64)];
+        assert_eq!(parts, [Some(clear.ciphertext()); 2], "{name}");
         assert_eq!(fetch(&given.key, bytes, k as u64), Ok(unit), "{name}");
     }
     let count = count as u64;
@@ -53,6 +64,7 @@ fn assert_reads(given: &second::Book, bytes: &[u8], name: &str) {
             "{k} of {name}"
         );
         assert_eq!((book.ciphertext(k), ciphertext(bytes, k)), (None, None));
+        assert_eq!(clear_unit(bytes, k), Err(NoSuchUnit), "{k} of {name}");
     }
 }
 
@@ -89,8 +101,8 @@ fn long_segments() {
     }
 }
 
-/// The ciphertext is a part of the bytes that were lent, 12 bytes behind the unit's first, and two bytes
-/// longer than source and target.
+/// The ciphertext is a part of the bytes that were lent, at its place, and two bytes longer than source and
+/// target.
 #[test]
 fn ciphertext_is_a_part() {
     let mut random = Random::new(SEED + 2);
@@ -100,7 +112,7 @@ fn ciphertext_is_a_part() {
     let book = Book::check(&given.key, &bytes).unwrap();
     let places = places(&given);
     for (k, (s, t)) in lengths.into_iter().enumerate() {
-        let start = bytes.as_ptr().wrapping_add(places[k] + 12);
+        let start = bytes.as_ptr().wrapping_add(places[k] + CIPHERTEXT);
         let range = start..start.wrapping_add(2 + s + t);
         for part in [book.ciphertext(k as u64), ciphertext(&bytes, k as u64)] {
             assert_eq!(part.unwrap().as_ptr_range(), range, "unit {k}");
@@ -108,19 +120,120 @@ fn ciphertext_is_a_part() {
     }
 }
 
-/// What is handed out of a book lives as long as the bytes, and not only as long as the book.
+/// A book of bytes that it owns: it can be handed on, cloned, and asked by several threads at once, before
+/// its places are noted and after; and it gives its bytes back.
 #[test]
-fn parts_outlive_the_book() {
-    let given = book(&mut Random::new(SEED + 3), Suite::SCREAM_6, &[(3, 3)]);
+fn owns_its_bytes() {
+    let mut random = Random::new(SEED + 3);
+    let lengths = lengths(&mut random, 60, 40);
+    let given = book(&mut random, Suite::SCREAM_6, &lengths);
     let bytes = written(&given);
-    let (part, all) = {
-        let book = Book::check(&given.key, &bytes).unwrap();
+    fn checked<B: AsRef<[u8]> + Clone + Send + Sync>(given: &second::Book, bytes: B) -> Book<B> {
+        let book = Book::check(&given.key, bytes).unwrap();
         let copy = book.clone();
-        drop(book);
-        assert_eq!(copy.fetch(0).unwrap().source, given.units[0].source);
-        (copy.ciphertext(0).unwrap(), copy.bytes())
+        std::thread::scope(|scope| {
+            for _ in 0..4 {
+                scope.spawn(|| {
+                    for (k, added) in given.units.iter().enumerate().rev() {
+                        assert_unit(&book.fetch(k as u64).unwrap(), k, added, "at once");
+                    }
+                });
+            }
+        });
+        for book in [&copy, &book.clone()] {
+            assert_unit(&book.fetch(9).unwrap(), 9, &given.units[9], "a clone");
+        }
+        book
+    }
+    let borrowed: &[u8] = checked(&given, &bytes[..]).into_bytes();
+    let array: &[u8; 3] = borrowed.first_chunk().expect("a book");
+    assert_eq!(Book::check(&given.key, array).err(), Some(FieldMalformed));
+    let shared: Arc<[u8]> = checked(&given, Arc::from(&bytes[..])).into_bytes();
+    let boxed: Box<[u8]> = checked(&given, Box::from(&bytes[..])).into_bytes();
+    let owned: Vec<u8> = checked(&given, bytes.clone()).into_bytes();
+    for back in [borrowed, &shared, &boxed, &owned] {
+        assert!(back == bytes);
+    }
+}
+
+/// Lends one string of bytes for the first times that it is asked, and then another.
+struct Changing {
+    lent: Cell<usize>,
+    times: usize,
+    first: Vec<u8>,
+    then: Vec<u8>,
+}
+
+impl AsRef<[u8]> for Changing {
+    fn as_ref(&self) -> &[u8] {
+        self.lent.set(self.lent.get() + 1);
+        match self.lent.get() <= self.times {
+            true => &self.first,
+            false => &self.then,
+        }
+    }
+}
+
+/// Bytes that are not the same each time are answered with a refusal or with a unit whose seal is right.
+#[test]
+fn bytes_that_change() {
+    let mut random = Random::new(SEED + 8);
+    let given = book(
+        &mut random,
+        Suite::ISCREAM_8,
+        &[(3, 4), (1, 0), (6, 2), (9, 9)],
+    );
+    let other = second::Book {
+        units: book(&mut random, Suite::ISCREAM_8, &[(2, 2), (60, 1)]).units,
+        ..given.clone()
     };
-    assert_eq!((part, all), (&bytes[28..36], &bytes[..]));
+    let bytes = written(&given);
+    let (mut handed_out, mut refused) = (0, 0);
+    for case in 0..3_000 {
+        let mut then = match random.below(4) {
+            0 => written(&other),
+            1 => Vec::new(),
+            _ => bytes.clone(),
+        };
+        for _ in 0..random.below(3) {
+            let at = random.below(then.len() + 1);
+            if let Some(byte) = then.get_mut(at) {
+                *byte = random.one_of(&[0, 1, 0x10, 0x12, 0x20, b'e', 0xFF]);
+            } else {
+                then.truncate(random.below(then.len() + 1));
+            }
+        }
+        // checking asks once; the places are noted of the first bytes or of the others
+        let changing = Changing {
+            lent: Cell::new(0),
+            times: 1 + random.below(3),
+            first: bytes.clone(),
+            then,
+        };
+        let book = Book::check(&given.key, changing).unwrap();
+        assert_eq!(book.len(), 4);
+        for k in [3, 0, 1, 2, 4, u64::MAX] {
+            match book.fetch(k) {
+                Ok(unit) => {
+                    let written = [&given, &other].map(|book| book.units.get(k as usize));
+                    let same = |added: &&second::Unit| unit.source == added.source;
+                    assert!(
+                        written.into_iter().flatten().any(|one| same(&one)),
+                        "{case}"
+                    );
+                    handed_out += 1;
+                }
+                Err(_) => refused += 1,
+            }
+            assert!(book.ciphertext(k).is_none_or(|part| part.len() >= 3));
+        }
+        assert!(book.iter().count() <= 4);
+        assert_eq!(book.fetch(4), Err(NoSuchUnit));
+    }
+    assert!(
+        handed_out > 1_000 && refused > 1_000,
+        "{handed_out} {refused}"
+    );
 }
 
 /// The refusal of each byte of a book with two units, when its highest bit is changed.
@@ -171,8 +284,8 @@ fn changed_bytes() {
             assert_eq!(checked.err(), Some(refusal), "{name}");
 
             // ciphertexts and tags of the units
-            let seal_of_one = at >= one + 12 && at < two && refusal == TagDiffers;
-            let seal_of_two = at >= two + 12 && at < close && refusal == TagDiffers;
+            let seal_of_one = at >= one + CIPHERTEXT && at < two && refusal == TagDiffers;
+            let seal_of_two = at >= two + CIPHERTEXT && at < close && refusal == TagDiffers;
             let seen = [
                 at < two,
                 at < close && !seal_of_one,
@@ -183,7 +296,7 @@ fn changed_bytes() {
                 match (fetch(key, &changed, k as u64), given.units.get(k)) {
                     (Ok(unit), Some(added)) => {
                         assert!(!seen, "{name}");
-                        assert_unit(&unit, added, &name);
+                        assert_unit(&unit, k, added, &name);
                     }
                     (Ok(_), None) => panic!("{name}"),
                     (Err(given), _) if seen => assert_eq!(given, refusal, "{name}"),
@@ -219,7 +332,12 @@ fn cut_and_lengthened() {
                 assert_eq!(fetched, Err(FieldMalformed), "unit {k}, {len} bytes");
                 assert_eq!(ciphertext(cut, k as u64), None);
             } else {
-                assert_unit(&fetched.unwrap(), added, &format!("unit {k}, {len} bytes"));
+                assert_unit(
+                    &fetched.unwrap(),
+                    k,
+                    added,
+                    &format!("unit {k}, {len} bytes"),
+                );
             }
         }
         assert_eq!(fetch(key, cut, 3), Err(FieldMalformed), "{len} bytes");
@@ -267,7 +385,7 @@ fn fetching_is_the_librarys() {
         let k = random.below(5) as u64;
         let name = format!("case {case}, unit {k}, seed {:X}", SEED + 7);
 
-        let mut out = [0; 8_192];
+        let mut out = [0; raw::UNIT_MAX];
         let expected = raw::fetch(&given.key, &changed, k, &mut out);
         refused += usize::from(expected.is_err());
         let segments = expected.map(|lengths| {
@@ -283,6 +401,14 @@ fn fetching_is_the_librarys() {
         let place = raw::ciphertext(&changed, k);
         let part = changed.get(place).filter(|part| !part.is_empty());
         assert_eq!(ciphertext(&changed, k), part, "{name}");
+        let clear = clear_unit(&changed, k);
+        assert_eq!(clear.as_ref().map(|unit| unit.ciphertext()).ok(), part);
+        let expected = raw::unit(&changed, k).map(|unit| unit.from.to_string());
+        let language = clear.map(|unit| unit.source_language().to_string());
+        assert_eq!(language, expected, "{name}");
+        let suite = info(&changed).map(|info| info.suite.to_bytes());
+        let expected = raw::info(&changed).map(|info| [info.cipher, info.steps]);
+        assert_eq!(suite, expected, "{name}");
     }
     assert!((5_000..15_000).contains(&refused), "{refused}");
 }

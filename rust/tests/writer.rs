@@ -2,11 +2,11 @@
 
 mod common;
 
-use common::{add, assert_unit, book, lengths, places, started, suite, written};
-use reference::book as second;
+use common::{add, assert_unit, book, lengths, started, suite, written};
+use reference::book::{self as second, places};
 use reference::random::Random;
 use sealed_book::Refusal::{LanguagesNotAllowed, SegmentLength, TooManyUnits};
-use sealed_book::{raw, Book, Refusal, Suite, Writer};
+use sealed_book::{ciphertext, clear_unit, raw, Book, Refusal, Suite, Writer};
 
 const SEED: u64 = 0x5752_4954;
 
@@ -33,7 +33,7 @@ fn known_book() {
 
 /// The book that the library's own calls write into one buffer, which is long enough from the start.
 fn in_one_buffer(book: &second::Book) -> Vec<u8> {
-    let mut buffer = vec![0xEE; places(book).last().unwrap() + 24];
+    let mut buffer = vec![0xEE; places(book).last().unwrap() + raw::CLOSE_ROOM];
     let mut writer = [0; raw::LEN];
     let (cipher, steps, number) = (book.cipher, book.steps, book.number);
     raw::start(cipher, steps, &book.key, number, &mut buffer, &mut writer).unwrap();
@@ -86,11 +86,12 @@ fn grows() {
 fn close_grows() {
     let (suite, key) = (Suite::SCREAM_6, [4; 16]);
     for left in 0..30 {
-        let mut writer = Writer::with_capacity(suite, &key, 1, 16 + 37 + left).unwrap();
+        let place = raw::FIRST_UNIT + raw::unit_room(4, 0);
+        let mut writer = Writer::with_capacity(suite, &key, 1, place + left).unwrap();
         assert_eq!(writer.add("en", "de", "abcd", ""), Ok(0));
-        assert_eq!(writer.len(), 16 + 37);
+        assert_eq!(writer.len(), place);
         let bytes = writer.close().unwrap();
-        assert_eq!(bytes.len(), 16 + 37 + 24);
+        assert_eq!(bytes.len(), raw::book_room(1, 4));
         assert_eq!(Book::check(&key, &bytes).unwrap().len(), 1);
     }
 }
@@ -185,12 +186,14 @@ fn a_full_book() {
     assert_eq!((checked.len(), checked.calls()), (65_535, 4 * 65_535 + 3));
     let mut units = 0;
     for (fetched, added) in checked.iter().zip(&book.units) {
-        assert_unit(&fetched.unwrap(), added, &format!("unit {units}"));
+        assert_unit(&fetched.unwrap(), units, added, &format!("unit {units}"));
         units += 1;
     }
     assert_eq!(units, 65_535);
-    let last = checked.fetch(65_534).unwrap();
-    assert_unit(&last, &book.units[65_534], "the last unit");
+    for k in (0..65_535).rev().step_by(31) {
+        let unit = checked.fetch(k as u64).unwrap();
+        assert_unit(&unit, k, &book.units[k], &format!("unit {k} alone"));
+    }
     assert_eq!(checked.fetch(65_535), Err(Refusal::NoSuchUnit));
 }
 
@@ -222,9 +225,9 @@ fn any_bytes() {
     );
 }
 
-/// Neither a writer nor a book shows its key.
+/// Neither a writer nor a book shows its key, and a unit not its text.
 #[test]
-fn debug_shows_no_key() {
+fn debug_shows_no_secret() {
     let key = [0xA7; 16];
     let mut writer = Writer::start(Suite::SCREAM_10, &key, 7).unwrap();
     writer.add("en", "de", "valve", "Ventil").unwrap();
@@ -235,7 +238,12 @@ fn debug_shows_no_key() {
     let expected =
         "Book { suite: Suite { cipher: Scream, steps: 10 }, number: 7, units: 1, calls: 7, .. }";
     assert_eq!(format!("{book:?}"), expected);
-    assert!(!format!("{:?}", book.iter()).contains("167"));
+    let expected = "Units { next: 0, units: 1, .. }";
+    assert_eq!(format!("{:?}", book.iter()), expected);
+    let expected = "Unit { number: 0, from: \"en\", to: \"de\", source_len: 5, target_len: 6, .. }";
+    assert_eq!(format!("{:?}", book.fetch(0).unwrap()), expected);
+    let expected = "ClearUnit { number: 0, from: \"en\", to: \"de\", ciphertext_len: 13, .. }";
+    assert_eq!(format!("{:?}", clear_unit(&bytes, 0).unwrap()), expected);
 }
 
 /// The number that is given counts: the same unit under another one has another ciphertext.
@@ -246,7 +254,7 @@ fn numbers_count() {
     let one = written(&book);
     book.number ^= 1 << 63;
     let other = written(&book);
-    assert_ne!(one[28..108], other[28..108]);
+    assert_ne!(ciphertext(&one, 0), ciphertext(&other, 0));
     for (bytes, number) in [(&one, book.number ^ 1 << 63), (&other, book.number)] {
         let checked = Book::check(&book.key, bytes).unwrap();
         assert_eq!((checked.number(), checked.suite()), (number, suite(&book)));

@@ -29,8 +29,8 @@ pub struct Writer {
 }
 
 impl Writer {
-    /// Starts a book at the start of the buffer, of which it takes 16 bytes. Where it is refused, the
-    /// writer is a closed one of zeros.
+    /// Starts a book at the start of the buffer, of which it takes [`raw::FIRST_UNIT`] bytes. Where it is
+    /// refused, the writer is a closed one of zeros.
     pub fn start(
         cipher: u8,
         steps: u8,
@@ -43,7 +43,7 @@ impl Writer {
         (Writer::from_bytes(&bytes), answer)
     }
 
-    /// Adds a unit, which takes 33 bytes of the buffer and those of source and target.
+    /// Adds a unit, which takes [`raw::unit_room`] bytes of the buffer.
     pub fn add(
         self,
         buffer: &mut [u8],
@@ -57,7 +57,7 @@ impl Writer {
         (Writer::from_bytes(&bytes), answer)
     }
 
-    /// Closes the book, which takes 24 bytes of the buffer.
+    /// Closes the book, which takes [`raw::CLOSE_ROOM`] bytes of the buffer.
     pub fn close(self, buffer: &mut [u8]) -> (Writer, Result<(), Refusal>) {
         let mut bytes = self.to_bytes();
         let answer = raw::close(&mut bytes, buffer);

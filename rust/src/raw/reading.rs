@@ -1,7 +1,6 @@
 //! Checking a book, and fetching from one.
 
-use std::ops::Range;
-
+use super::clear::within_the_book;
 use crate::{foreign, refusal, Refusal};
 
 /// What checking returns.
@@ -53,7 +52,7 @@ impl Fetched {
 }
 
 /// Fetches unit `k`: walks the units before it without their seals, opens it, and writes source and
-/// target at the start of `out`, for which 8,192 bytes are always enough.
+/// target at the start of `out`, for which [`UNIT_MAX`](super::UNIT_MAX) bytes are always enough.
 #[inline]
 pub fn fetch(key: &[u8], book: &[u8], k: u64, out: &mut [u8]) -> Result<Fetched, Refusal> {
     let (mut source, mut target) = (0, 0);
@@ -75,8 +74,18 @@ pub fn fetch(key: &[u8], book: &[u8], k: u64, out: &mut [u8]) -> Result<Fetched,
     Ok(Fetched::new(source, target))
 }
 
-/// Fetches the unit of this number, whose header stands at byte `at` of the book, without a walk. Unit 0
-/// stands at byte 16, and each next one 33 bytes and those of source and target further.
+/// What fetching at a place returns.
+#[derive(Clone, Copy, Debug, PartialEq, Eq)]
+pub struct FetchedAt {
+    /// The lengths of source and target.
+    pub lengths: Fetched,
+    /// Where the next unit begins, or the close.
+    pub next: usize,
+}
+
+/// Fetches the unit of this number, whose fields begin at byte `at` of the book, without a walk. Unit 0
+/// begins at [`FIRST_UNIT`](super::FIRST_UNIT), each further one at the `next` of the one before it. Any
+/// place may be given; what stands there is read as the unit of this number, or as the close.
 #[inline]
 pub fn fetch_at(
     key: &[u8],
@@ -84,9 +93,9 @@ pub fn fetch_at(
     number: u64,
     at: usize,
     out: &mut [u8],
-) -> Result<Fetched, Refusal> {
-    let (mut source, mut target) = (0, 0);
-    // SAFETY: each slice is given with its length, and only `out` and the two numbers are written.
+) -> Result<FetchedAt, Refusal> {
+    let (mut source, mut target, mut next) = (0, 0, 0);
+    // SAFETY: each slice is given with its length, and only `out` and the three numbers are written.
     let number = unsafe {
         foreign::sb_fetch_at(
             key.as_ptr(),
@@ -99,19 +108,12 @@ pub fn fetch_at(
             out.len(),
             &mut source,
             &mut target,
+            &mut next,
         )
     };
     refusal::answer(number)?;
-    Ok(Fetched::new(source, target))
-}
-
-/// Where unit `k`'s ciphertext stands in the book; 0..0 where there is none, or where the walk to it
-/// would be refused. No key is needed.
-#[inline]
-pub fn ciphertext(book: &[u8], k: u64) -> Range<usize> {
-    let (mut at, mut len) = (0, 0);
-    // SAFETY: the book is given with its length, and only the two numbers are written.
-    unsafe { foreign::sb_ciphertext(book.as_ptr(), book.len(), k, &mut at, &mut len) };
-    let [at, len] = [at, len].map(|place| usize::try_from(place).expect("within the book"));
-    at..at + len
+    Ok(FetchedAt {
+        lengths: Fetched::new(source, target),
+        next: within_the_book(next),
+    })
 }

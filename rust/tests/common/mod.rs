@@ -60,22 +60,9 @@ pub fn written(book: &second::Book) -> Vec<u8> {
     writer.close().expect("an open writer")
 }
 
-/// How many bytes the unit takes.
-pub fn unit_len(unit: &second::Unit) -> usize {
-    33 + unit.source.len() + unit.target.len()
-}
-
-/// Where each unit begins, and where the close does.
-pub fn places(book: &second::Book) -> Vec<usize> {
-    let mut places = vec![16];
-    for unit in &book.units {
-        places.push(places[places.len() - 1] + unit_len(unit));
-    }
-    places
-}
-
-/// A fetched unit is the one that was added.
-pub fn assert_unit(fetched: &Unit, added: &second::Unit, name: &str) {
+/// A fetched unit is the one that was added as unit `k`.
+pub fn assert_unit(fetched: &Unit, k: usize, added: &second::Unit, name: &str) {
+    assert_eq!(fetched.number(), k as u64, "{name}");
     assert_eq!(
         (
             fetched.source_language().as_bytes(),
