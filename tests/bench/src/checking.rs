@@ -28,7 +28,7 @@ impl Data {
         let mut random = Random::new(2014);
         let (cipher, steps) = suite;
         let key = random.bytes();
-        let mut book = vec![0; 16 + units * (33 + 240) + 24];
+        let mut book = vec![0; raw::book_room(units, units * 240)];
         let (mut writer, mut answer) = Writer::start(cipher, steps, &key, 7, &mut book);
         let mut texts = Vec::new();
         for _ in 0..units {

@@ -1,16 +1,18 @@
 //! A large book: written, checked, and units of it fetched.
 
+use std::hint::black_box;
+use std::iter::zip;
 use std::rc::Rc;
 use std::time::Duration;
 
 use bench::baseline;
-use bench::cost::{Per, Rounds};
+use bench::cost::{Cost, Per, Rounds};
 use bench::counter::Cycles;
 use bench::table::{Contestant, Line, Table, SUITES};
 use reference::check::check;
 use reference::fetch::{fetch, Fetched};
 use reference::random::Random;
-use sealed_book::raw;
+use sealed_book::{raw, Book};
 
 use crate::large::{segments, LargeBook, ONE_LONG_IN, UNITS};
 
@@ -38,6 +40,18 @@ enum What {
     Check,
     /// These units, one after the other.
     Fetch(Vec<u64>),
+    /// These too, through the crate's book.
+    FetchNoted(Vec<u64>, Rc<Book<Bytes>>),
+}
+
+/// The bytes of a large book.
+#[derive(Clone)]
+struct Bytes(Rc<LargeBook>);
+
+impl AsRef<[u8]> for Bytes {
+    fn as_ref(&self) -> &[u8] {
+        &self.0.bytes
+    }
 }
 
 /// A book, what is done with it, and what that leaves: its bytes, the two counts of a check, or the
@@ -77,6 +91,16 @@ impl Data {
         }
     }
 
+    /// The same fetches through the crate's book, which is checked and has not noted anything.
+    fn fetch_noted(book: &Rc<Book<Bytes>>, large: &Rc<LargeBook>, fetches: usize) -> Data {
+        let data = Data::fetch(large, fetches);
+        let What::Fetch(units) = data.what else {
+            unreachable!("units are fetched");
+        };
+        let what = What::FetchNoted(units, book.clone());
+        Data { what, ..data }
+    }
+
     /// Keeps the counts of a check.
     fn keep(&mut self, units: u64, calls: u64) {
         self.left[..8].copy_from_slice(&units.to_be_bytes());
@@ -105,7 +129,19 @@ fn library(data: &mut Data) {
             let fetched = raw::fetch(&book.key, &book.bytes, k, out).expect("not refused");
             fetched.source + fetched.target
         }),
+        What::FetchNoted(units, noted) => fetch_each(units, left, |k, out| {
+            let unit = noted.fetch(k).expect("not refused");
+            put(out, &unit.source, &unit.target)
+        }),
     }
+}
+
+/// Puts source and target at the start of the output, and returns their length.
+fn put(out: &mut [u8], source: &[u8], target: &[u8]) -> usize {
+    let (first, then) = out.split_at_mut(source.len());
+    first.copy_from_slice(source);
+    then[..target.len()].copy_from_slice(target);
+    source.len() + target.len()
 }
 
 fn second(data: &mut Data) {
@@ -116,13 +152,10 @@ fn second(data: &mut Data) {
             let (units, calls) = check(&book.key, &book.bytes).expect("accepted");
             data.keep(units, calls);
         }
-        What::Fetch(units) => fetch_each(units, left, |k, out| {
+        What::Fetch(units) | What::FetchNoted(units, _) => fetch_each(units, left, |k, out| {
             let fetched = fetch(&book.key, &book.bytes, k, out.len()).expect("not refused");
             let Fetched { source, target } = fetched;
-            let (first, then) = out.split_at_mut(source.len());
-            first.copy_from_slice(&source);
-            then[..target.len()].copy_from_slice(&target);
-            source.len() + target.len()
+            put(out, &source, &target)
         }),
     }
 }
@@ -135,27 +168,29 @@ fn in_c(data: &mut Data) {
             let (units, calls) = baseline::check(&book.key, &book.bytes).expect("accepted");
             data.keep(units, calls);
         }
-        What::Fetch(units) => fetch_each(units, left, |k, out| {
+        What::Fetch(units) | What::FetchNoted(units, _) => fetch_each(units, left, |k, out| {
             let (s, t) = baseline::fetch(&book.key, &book.bytes, k, out).expect("not refused");
             s + t
         }),
     }
 }
 
-/// The lines of the table.
-fn lines(books: &[Rc<LargeBook>; 2]) -> Vec<Line<Data>> {
+/// The lines of the table. The crate's books have not noted anything.
+fn lines(books: &[Rc<LargeBook>; 2], checked: &[Rc<Book<Bytes>>; 2]) -> Vec<Line<Data>> {
     let mut lines = Vec::new();
-    for ((name, suite), book) in SUITES.into_iter().zip(books) {
+    for (((name, suite), book), checked) in SUITES.into_iter().zip(books).zip(checked) {
         let first_units = Rc::new(LargeBook::new(suite, FEWER_UNITS));
         let whole = |data: fn(&Rc<LargeBook>) -> Data| {
             let [data, less] = [book, &first_units].map(data);
             ((UNITS, data), (FEWER_UNITS, less))
         };
         let fetch = |count: usize| (count, Data::fetch(book, count));
+        let noted = |count: usize| (count, Data::fetch_noted(checked, book, count));
         for (word, turns, ((size, data), less)) in [
             ("write", TURNS, whole(Data::write)),
             ("check", TURNS, whole(Data::check)),
             ("fetch", 1, (fetch(FETCHES), fetch(FEWER_FETCHES))),
+            ("Book", 1, (noted(FETCHES), noted(FEWER_FETCHES))),
         ] {
             lines.push(Line {
                 cells: format!("{name:<11}{word:<6}{size:>6}{:>7}", less.0),
@@ -170,8 +205,35 @@ fn lines(books: &[Rc<LargeBook>; 2]) -> Vec<Line<Data>> {
     lines
 }
 
+/// What the first use of the crate's book costs, which notes where each unit begins: a unit.
+fn first_use(checked: &Book<Bytes>, counter: &mut Option<Cycles>) -> Cost {
+    let mut cost = Cost::NONE;
+    Rounds::USUAL.run(|| {
+        let book = checked.clone();
+        cost.measure(counter, UNITS, || {
+            black_box(book.ciphertext(0));
+        });
+    });
+    cost
+}
+
+/// The costs of the first use in words.
+fn first_uses(costs: [Cost; 2]) -> String {
+    let words = zip(SUITES, costs).map(|((name, _), cost)| {
+        let unit = cost.nanoseconds;
+        let all = unit * UNITS as f64 / 1e6;
+        format!("{all:.2} ms with {name} ({unit:.1} ns a unit)")
+    });
+    words.collect::<Vec<_>>().join(", ")
+}
+
 /// Measures all lines in turns, and prints the table.
 pub fn table(books: &[Rc<LargeBook>; 2], counter: &mut Option<Cycles>) {
+    let checked = books.each_ref().map(|book| {
+        let checked = Book::check(&book.key, Bytes(book.clone()));
+        Rc::new(checked.expect("accepted"))
+    });
+    let first = checked.each_ref().map(|book| first_use(book, counter));
     let long = UNITS / ONE_LONG_IN;
     let len = books[0].bytes.len();
     let table = Table {
@@ -187,13 +249,16 @@ pub fn table(books: &[Rc<LargeBook>; 2], counter: &mut Option<Cycles>) {
             "check or fetch, fewer is how many the reference does: it writes and checks a book of the first units,".to_string(),
             "with the same share of long ones, and fetches from the whole book. A fetch is of a unit at random, and".to_string(),
             format!("walks over half of the book on the average. Writing and checking have {TURNS} turns in a round."),
+            "Book is the same fetches, by the library through Book of the crate for Rust, which has noted where its".to_string(),
+            "units begin; the reference and C walk. Noting them takes 8 bytes of memory a unit, and at the first use,".to_string(),
+            format!("which is not counted in, {}.", first_uses(first)),
         ],
         on_numbers: vec!["Ratios are of ns a unit."],
         per: Per::Unit,
         rounds: ROUNDS,
         head: format!("{:<17}{:>6}{:>7}", "suite", "units", "fewer"),
         later: None,
-        lines: lines(books),
+        lines: lines(books, &checked),
         left: |data| &data.left,
     };
     table.print(counter);

@@ -51,7 +51,7 @@ impl LargeBook {
             });
         }
         let segments: usize = book.units.iter().map(segments).sum();
-        let mut bytes = vec![0; 16 + 33 * count + segments + 24];
+        let mut bytes = vec![0; raw::book_room(count, segments)];
         book.write(&mut bytes);
         book.bytes = bytes;
         book

@@ -50,7 +50,7 @@ impl Data {
         let key = random.bytes();
         let calls = CallList::new(suite, key, &nonce, &header.concat(), &unit.text());
 
-        let place = 16 + before * (33 + len);
+        let place = raw::FIRST_UNIT + before * raw::unit_room(len, 0);
         Data {
             writer: Writer {
                 cipher,
@@ -62,7 +62,7 @@ impl Data {
                 calls: (before * calls.count()) as u64,
                 closed: false,
             },
-            buffer: vec![0; place + 33 + len],
+            buffer: vec![0; place + raw::unit_room(len, 0)],
             unit,
             calls,
         }

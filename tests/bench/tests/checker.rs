@@ -6,6 +6,7 @@ use reference::check::check;
 use reference::cipher::SUITES;
 use reference::random::Random;
 use reference::vectors::book_vectors;
+use sealed_book::raw::book_room;
 
 const SEED: u64 = 0x4342_4F4F;
 
@@ -69,7 +70,7 @@ fn checks_are_those_of_the_reference() {
 #[test]
 fn a_full_book() {
     let key = [3; 16];
-    let mut bytes = vec![0; 16 + 65_535 * 34 + 24];
+    let mut bytes = vec![0; book_room(65_535, 65_535)];
     let (mut writer, answer) = baseline::start(1, 6, &key, 9, &mut bytes);
     assert_eq!(answer, Ok(()));
     for _ in 0..65_535 {

@@ -2,11 +2,12 @@
 //! reference's checker, so that what is measured is the fetching of units.
 
 use bench::baseline;
-use reference::book::{Book, Unit};
+use reference::book::{places, Book, Unit};
 use reference::check::check;
 use reference::cipher::SUITES;
 use reference::random::Random;
 use reference::vectors::book_vectors;
+use sealed_book::raw::book_room;
 
 const SEED: u64 = 0x4645_5443;
 
@@ -75,15 +76,11 @@ enum Changed {
 
 /// The part of a book that its byte `at` stands in.
 fn part_at(book: &Book, at: usize) -> Changed {
-    if at < 16 {
-        return Changed::Opening;
+    let begun = places(book).into_iter().filter(|place| *place <= at);
+    match begun.count() {
+        0 => Changed::Opening,
+        count => Changed::From(count - 1),
     }
-    let mut end = 16;
-    let before = book.units.iter().take_while(|unit| {
-        end += 33 + unit.source.len() + unit.target.len();
-        end <= at
-    });
-    Changed::From(before.count())
 }
 
 /// What fetch gives of a book that is changed in one part only and gets this answer from the checker:
@@ -192,7 +189,7 @@ fn a_full_book() {
         target: Vec::new(),
     };
     let key = [3; 16];
-    let mut bytes = vec![0; 16 + 65_535 * 34 + 24];
+    let mut bytes = vec![0; book_room(65_535, 65_535)];
     let (mut writer, answer) = baseline::start(1, 6, &key, 9, &mut bytes);
     assert_eq!(answer, Ok(()));
     for _ in 0..65_535 {

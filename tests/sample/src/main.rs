@@ -1,10 +1,11 @@
 //! Enciphers one block with the proved library and deciphers it again; seals a sentence, opens it again,
 //! and has it refused with one bit changed; writes a book of three units, checks it, fetches one unit,
-//! goes over all, and has the book refused with two blocks exchanged. Prints what it did.
+//! goes over all, reads what stands in the clear, and has the book refused with two blocks exchanged.
+//! Prints what it did.
 
 use std::error::Error;
 
-use sealed_book::{open, raw, seal, Book, Refusal, Suite, Unit, Writer};
+use sealed_book::{clear_unit, info, open, raw, seal, Book, Refusal, Suite, Unit, Writer};
 
 const SUITE: Suite = Suite::SCREAM_10;
 
@@ -16,7 +17,9 @@ fn main() -> Result<(), Box<dyn Error>> {
     one_sentence(&key)?;
     println!();
     let bytes = write_a_book(&key)?;
-    read_a_book(&key, &bytes)
+    read_a_book(&key, &bytes)?;
+    read_without_key(&bytes)?;
+    change_a_book(&key, bytes)
 }
 
 fn one_block(key: &[u8; 16]) -> Result<(), Refusal> {
@@ -77,8 +80,10 @@ fn write_a_book(key: &[u8; 16]) -> Result<Vec<u8>, Box<dyn Error>> {
     ] {
         let before = writer.len();
         let k = writer.add("en", to, source, target)?;
-        let about = format!("number and languages of unit {k}: public");
-        print("added", &writer.written()[before..before + 9], &about);
+        let unit = raw::unit_at(writer.written(), k, before)?;
+        let fields = &writer.written()[before..unit.ciphertext.start];
+        let about = format!("number, languages and length of unit {k}: public");
+        print("added", fields, &about);
         println!("            {source:?} {target:?}  secret");
     }
     let answer = writer.add("en", "en", "Close the valve.", "");
@@ -105,19 +110,31 @@ fn read_a_book(key: &[u8; 16], bytes: &[u8]) -> Result<(), Box<dyn Error>> {
         book.calls()
     );
     println!("fetched     unit 1: {}", shown(&book.fetch(1)?)?);
-    if let Some(ciphertext) = book.ciphertext(2) {
-        print("unopened", ciphertext, "unit 2 as it stands in the book");
-    }
     refused("fetched", book.fetch(3), "unit 3")?;
-    for (k, unit) in book.iter().enumerate() {
-        let name = if k == 0 { "all" } else { "" };
-        println!("{name:<10}  unit {k}: {}", shown(&unit?)?);
+    for unit in &book {
+        let unit = unit?;
+        let (k, name) = (unit.number(), if unit.number() == 0 { "all" } else { "" });
+        println!("{name:<10}  unit {k}: {}", shown(&unit)?);
     }
+    Ok(())
+}
 
-    let mut changed = bytes.to_vec();
-    let (one, other) = changed[28..60].split_at_mut(16);
-    one.swap_with_slice(other);
-    let answer = Book::check(key, &changed);
+fn read_without_key(bytes: &[u8]) -> Result<(), Refusal> {
+    let info = info(bytes)?;
+    let (number, suite) = (info.number, info.suite);
+    println!("no key      book {number}, {suite}: no seal is tested");
+    let unit = clear_unit(bytes, 2)?;
+    let (from, to) = (unit.source_language(), unit.target_language());
+    let about = format!("unit 2, {from} to {to}, unopened");
+    print("", unit.ciphertext(), &about);
+    Ok(())
+}
+
+fn change_a_book(key: &[u8; 16], mut bytes: Vec<u8>) -> Result<(), Box<dyn Error>> {
+    let ciphertext = raw::unit(&bytes, 0)?.ciphertext;
+    let (one, rest) = bytes[ciphertext].split_at_mut(raw::BLOCK_LEN);
+    one.swap_with_slice(&mut rest[..raw::BLOCK_LEN]);
+    let answer = Book::check(key, bytes);
     refused("exchanged", answer, "two blocks of unit 0")
 }
 

@@ -11,6 +11,7 @@ use reference::check::check;
 use reference::cipher::SUITES;
 use reference::random::Random;
 use reference::vectors::book_vectors;
+use sealed_book::raw::CLOSE_ROOM;
 
 const SEED: u64 = 0x4348_4543;
 
@@ -132,7 +133,7 @@ fn a_full_book() {
     assert_eq!(writer.calls, calls);
     check_gives(&book.key, &bytes, Ok((65_535, calls)), "65,535 units");
 
-    let close = bytes.split_off(bytes.len() - 24);
+    let close = bytes.split_off(bytes.len() - CLOSE_ROOM);
     let more = unit_fields(&book, 65_535, 65_535, *b"ende", &[0, 1, 2]);
     bytes.extend(more.concat());
     bytes.extend(close);

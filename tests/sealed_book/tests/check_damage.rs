@@ -4,14 +4,15 @@ mod common;
 
 use common::checking::{accepts, checked, refuses};
 use common::parts::{
-    close_fields, random_book, renumber, three_units, unit_fields, written, Parts, CIPHERTEXT,
+    close_fields, random_book, renumber, three_units, unit_fields, written, Parts,
 };
 use common::spoiling::damage;
 use common::swapped;
 use common::writing::unit;
-use reference::book::Book;
+use reference::book::{Book, CIPHERTEXT};
 use reference::cipher::SUITES;
 use reference::random::Random;
+use sealed_book::raw::CLOSE_ROOM;
 
 const SEED: u64 = 0x4344_414D;
 
@@ -86,7 +87,7 @@ fn bytes_taken_away() {
 fn bytes_put_in() {
     let mut random = Random::new(SEED + 3);
     for (book, bytes) in small_books(&mut random) {
-        let mut more = vec![bytes[bytes.len() - 24..].to_vec(), bytes.clone()];
+        let mut more = vec![bytes[bytes.len() - CLOSE_ROOM..].to_vec(), bytes.clone()];
         more.extend([1, 2, 3, 16, 24, 300].map(|len| random.some_bytes(len)));
         more.extend([0x00, 0x10, 0x20, 0xFF].map(|byte| vec![byte]));
         for more in more {

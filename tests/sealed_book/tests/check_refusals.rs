@@ -11,6 +11,7 @@ use common::{codes_with_each_byte, UNLISTED};
 use reference::book::Book;
 use reference::cipher::{listed, SUITES};
 use reference::random::Random;
+use sealed_book::raw::CLOSE_ROOM;
 
 const SEED: u64 = 0x4352_4546;
 
@@ -400,7 +401,7 @@ fn every_next_byte() {
     for units in [0, 1] {
         let book = random_book(&mut random, (1, 6), units, 20);
         let (whole, writer) = written(&book);
-        let (start, close) = whole.split_at(whole.len() - 24);
+        let (start, close) = whole.split_at(whole.len() - CLOSE_ROOM);
         for byte in 0..=255 {
             let behind = [start, &[byte]].concat();
             refuses(&book.key, &behind, 14, &format!("{byte:02X} alone"));

@@ -7,16 +7,15 @@ use std::ops::Range;
 
 use common::causes::sets;
 use common::fetching::{answer_of, part, part_gives, Which::Walked};
-use common::parts::{
-    close_fields, places, random_book, three_units, unit_fields, written, Parts, CIPHERTEXT,
-};
+use common::parts::{close_fields, random_book, three_units, unit_fields, written, Parts};
 use common::spoiled::{spoiled, Cause, Cause::*, CLOSE, UNIT_FRAME, WALK};
 use common::spoiling::{bad_text, damage, some_frames};
 use common::writing::unit;
-use reference::book::Book;
+use reference::book::{places, Book, CIPHERTEXT};
 use reference::cipher::SUITES;
 use reference::random::Random;
 use reference::vectors::book_vectors;
+use sealed_book::raw;
 
 const SEED: u64 = 0x4349_5048;
 
@@ -42,15 +41,16 @@ fn opens_to_each_text(book: &Book, bytes: &[u8], name: &str) {
     for (k, unit) in book.units.iter().enumerate() {
         let part = part(bytes, k as u64, name);
         assert_eq!(part, parts[k], "reference: {k}, {name}");
-        let place = part.start - CIPHERTEXT;
-        let head = &bytes[place..place + 9];
-        let tag = &bytes[part.end + 3..part.end + 19];
-        let nonce = [&bytes[3..11], &(k as u32).to_be_bytes()].concat();
-        let header = [&bytes[..16], head].concat();
+        // the header sealed along ends before tag and length of the ciphertext
+        let (place, end) = (places(book)[k], places(book)[k + 1]);
+        let head = &bytes[place..part.start - 3];
+        let tag = &bytes[end - raw::TAG_LEN..end];
+        let nonce = [&book.number.to_be_bytes()[..], &(k as u32).to_be_bytes()].concat();
+        let header = [&bytes[..raw::FIRST_UNIT], head].concat();
         let sealed = [&bytes[part.clone()], tag].concat();
         let mut text = vec![0; part.len()];
         let (cipher, steps) = (book.cipher, book.steps);
-        let opened = sealed_book::raw::open(
+        let opened = raw::open(
             cipher, steps, &book.key, &nonce, &header, &sealed, &mut text,
         );
         assert_eq!(opened, Ok(part.len()), "{k}, {name}");
@@ -86,8 +86,8 @@ fn known_book() {
     let book = Book::known(random.bytes());
     let (bytes, _) = written(&book);
     opens_to_each_text(&book, &bytes, "known value 8");
-    assert_eq!(sealed_book::raw::ciphertext(&bytes, 0), 28..41);
-    assert_eq!(sealed_book::raw::ciphertext(&bytes, 1), 0..0);
+    assert_eq!(raw::ciphertext(&bytes, 0), 28..41);
+    assert_eq!(raw::ciphertext(&bytes, 1), 0..0);
     part_gives(&[], 0, 0..0, "no book");
 }
 
@@ -128,7 +128,7 @@ fn a_full_book() {
     for k in [0, 256, 65_534, 65_535, 65_536, usize::MAX] {
         part_gives(&bytes, k as u64, expected(&parts, k), "65,535 units");
     }
-    bytes.truncate(bytes.len() - 24);
+    bytes.truncate(bytes.len() - raw::CLOSE_ROOM);
     let more = unit_fields(&book, 65_535, 65_535, *b"ende", &[0, 1, 2]);
     bytes.extend(more.concat());
     for k in [65_534, 65_535, 65_536] {
@@ -179,7 +179,7 @@ fn changed_bytes() {
                 let part = part(&changed, k as u64, &name);
                 let sealed = |unit: usize| {
                     let (part, end) = (&parts[unit], places[unit + 1]);
-                    part.contains(&at) || (end - 16..end).contains(&at)
+                    part.contains(&at) || (end - raw::TAG_LEN..end).contains(&at)
                 };
                 let behind = places.get(k + 1).is_some_and(|end| *end <= at);
                 if (3..11).contains(&at) || behind || (0..2).any(sealed) {
@@ -239,7 +239,7 @@ fn seals_are_not_looked_at() {
         let bytes = changed.joined();
         let start = parts[1].start;
         part_gives(&bytes, 1, start..start + m, "out of range");
-        let third = start + m + 19 + CIPHERTEXT;
+        let third = places(&book)[1] + changed.units[1].len() + CIPHERTEXT;
         part_gives(&bytes, 2, third..third + 43, "behind it");
         part_gives(&bytes, 3, 0..0, "behind it");
     }

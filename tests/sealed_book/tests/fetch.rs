@@ -13,7 +13,7 @@ use reference::book::Book;
 use reference::cipher::SUITES;
 use reference::random::Random;
 use reference::vectors::book_vectors;
-use sealed_book::Refusal;
+use sealed_book::{raw, Refusal};
 
 const SEED: u64 = 0x4645_5443;
 
@@ -77,11 +77,11 @@ fn known_book() {
     let (bytes, _) = written(&book);
     fetches_all(&book, &bytes, "known value 8");
     let mut out = [b'.'; 13];
-    let unit = sealed_book::raw::fetch(&book.key, &bytes, 0, &mut out);
+    let unit = raw::fetch(&book.key, &bytes, 0, &mut out);
     let unit = unit.expect("unit 0");
     assert_eq!((unit.source, unit.target), (5, 6));
     assert_eq!(&out, b"valveVentil..");
-    let none = sealed_book::raw::fetch(&book.key, &bytes, 1, &mut out);
+    let none = raw::fetch(&book.key, &bytes, 1, &mut out);
     assert_eq!(none, Err(Refusal::NoSuchUnit));
     assert_eq!(&out, b"valveVentil..");
 }
@@ -197,7 +197,7 @@ fn a_full_book() {
     gives(&bytes, 65_536, &Err(8), "the close's tag");
 
     // 13 before all but a malformed head; with 0 no byte is changed
-    let end = bytes.len() - 24;
+    let end = bytes.len() - raw::CLOSE_ROOM;
     bytes.truncate(end);
     let more = unit_fields(&book, 65_535, 65_535, *b"ende", &[0, 1, 2]);
     bytes.extend(more.concat());
@@ -247,7 +247,7 @@ fn as_many_as_checking_counts() {
         let mut out = [0; ROOM];
         let mut units = 0;
         let end = loop {
-            match sealed_book::raw::fetch(&book.key, &bytes, units, &mut out) {
+            match raw::fetch(&book.key, &bytes, units, &mut out) {
                 Ok(_) => units += 1,
                 Err(end) => break end,
             }

@@ -9,41 +9,38 @@ use common::fetching::{
     Which::{Placed, Walked},
     ROOM,
 };
-use common::parts::{
-    close_fields, places, random_book, three_units, unit_fields, unit_len, written, Parts,
-    CIPHERTEXT,
-};
+use common::parts::{close_fields, random_book, three_units, unit_fields, written, Parts};
 use common::spoiled::{spoiled, Cause, Cause::*, CLOSE, UNIT_FRAME};
-use common::spoiling::{damage, some_frames};
+use common::spoiling::{bad_openings, damage, some_frames, some_places, TOO_MANY};
 use common::writing::unit;
-use reference::book::{field, Book, Unit};
+use reference::book::{field, places, unit_len, Book, Unit, CIPHERTEXT};
 use reference::cipher::{listed, SUITES};
 use reference::random::Random;
 use reference::vectors::book_vectors;
+use sealed_book::raw::{self, FIRST_UNIT};
 use sealed_book::Refusal;
 
 const SEED: u64 = 0x4641_5420;
 
-/// Goes from unit to unit by the lengths that the library returns.
+/// Goes from unit to unit by what the library says of the next one.
 fn goes_through(book: &Book, bytes: &[u8], name: &str) {
     let mut out = [0; ROOM];
-    let (mut number, mut at) = (0, 16);
+    let (mut number, mut at) = (0, FIRST_UNIT);
     let end = loop {
-        let answer = sealed_book::raw::fetch_at(&book.key, bytes, number, at, &mut out);
-        let Ok(unit) = answer else {
+        let answer = raw::fetch_at(&book.key, bytes, number, at, &mut out);
+        let Ok(raw::FetchedAt { lengths, next }) = answer else {
             break answer;
         };
-        let expected = of(&book.units[number as usize]);
-        let lengths = (expected.source.len(), expected.target.len());
-        assert_eq!((unit.source, unit.target), lengths, "{name}");
-        let len = unit.source + unit.target;
-        assert_eq!(out[..len], expected.written(), "{name}");
+        let expected = of(&book.units[number as usize]).written();
+        let len = lengths.source + lengths.target;
+        assert_eq!(lengths.source, book.units[number as usize].source.len());
+        assert_eq!(out[..len], expected, "{name}");
         number += 1;
-        at += 33 + len;
+        at = next;
     };
     assert_eq!(end, Err(Refusal::NoSuchUnit), "{name}");
     assert_eq!(number, book.units.len() as u64, "{name}");
-    assert_eq!(at, bytes.len() - 24, "{name}");
+    assert_eq!(at, bytes.len() - raw::CLOSE_ROOM, "{name}");
 }
 
 /// Each unit at its place, and the close.
@@ -76,7 +73,7 @@ fn book_vectors_hold() {
                 units += book.units.len();
             }
             None => {
-                let answer = fetched(&key, &v.book, Placed(0, 16), ROOM, &name);
+                let answer = fetched(&key, &v.book, Placed(0, FIRST_UNIT), ROOM, &name);
                 let walked = fetched(&key, &v.book, Walked(0), ROOM, &name);
                 assert_eq!(answer, walked, "reference: {name}");
             }
@@ -108,7 +105,7 @@ fn every_set_of_causes() {
         let mut case = spoiled(random, set);
         if !set.contains(&OpeningFields) {
             // not one byte between the opening fields and the place is looked at
-            random.fill(&mut case.book[16..case.place]);
+            random.fill(&mut case.book[FIRST_UNIT..case.place]);
         }
         let which = Placed(case.running, case.place);
         fetched(&case.key, &case.book, which, case.out_len, name)
@@ -137,15 +134,11 @@ fn every_place() {
         let (bytes, _) = written(&book);
         let places: [usize; 3] = places(&book).try_into().expect("two units");
         let len = bytes.len();
-        // past the end, such as would be a unit's place in fewer bits, and the last that there are
-        let wide = [1 << 16, 1 << 32, 1 << 63].map(|wide| places.map(|at| at + wide));
-        let far = wide.into_iter().flatten().chain([len + 1, len + 33]);
-        let last = (0..70).map(|n| usize::MAX - n);
-        for at in (0..=len).chain(far).chain(last) {
+        for at in some_places(len, &places) {
             for number in [0, 1, 2, 3, 0x1_0000, 1 << 32, u64::MAX] {
                 let name = format!("seed {:X}", SEED + 3);
                 let answer = fetched(&book.key, &bytes, Placed(number, at), 20, &name);
-                if at < 16 || at >= len {
+                if at < FIRST_UNIT || at >= len {
                     assert_eq!(answer, Err(14), "{at}, {name}");
                 }
                 if let Some(unit) = places.iter().position(|place| *place == at) {
@@ -202,51 +195,47 @@ fn every_number() {
     for (number, expected) in [(65_534, None), (65_535, Some(13))] {
         let last = unit_fields(&book, number, number, *b"ende", &[0, 1, 7]).concat();
         let close = close_fields(&book, number + 1, number + 1).concat();
-        let bytes = [&bytes[..16], &last, &close].concat();
-        let answer = fetched(&book.key, &bytes, Placed(number as u64, 16), 1, "the last");
+        let bytes = [&bytes[..FIRST_UNIT], &last, &close].concat();
+        let answer = fetched(
+            &book.key,
+            &bytes,
+            Placed(number as u64, FIRST_UNIT),
+            1,
+            "the last",
+        );
         assert_eq!(answer.err(), expected, "{number}");
     }
     let close = close_fields(&book, 65_535, 65_535).concat();
-    let bytes = [&bytes[..16], &close].concat();
+    let bytes = [&bytes[..FIRST_UNIT], &close].concat();
     refuses(
         &book.key,
         &bytes,
-        Placed(65_535, 16),
+        Placed(65_535, FIRST_UNIT),
         16,
         "a full book's close",
     );
     refuses(
         &book.key,
         &bytes,
-        Placed(0x1_FFFF, 16),
+        Placed(0x1_FFFF, FIRST_UNIT),
         15,
         "a number with its two bytes",
     );
 }
 
-/// 13 is given before the number, the languages and the rest are looked at, and behind the header's
-/// field.
 #[test]
 fn too_many_units() {
     let mut random = Random::new(SEED + 5);
     let book = random_book(&mut random, (2, 8), 1, 9);
     let (bytes, _) = written(&book);
-    for (at, byte, number) in [
-        (20, 1, 13),
-        (21, 0, 13),
-        (25, 0, 13),
-        (27, 2, 13),
-        (16, 0x11, 14),
-        (18, 7, 14),
-        (15, 5, 1),
-        (14, 0, 1),
-        (13, 3, 14),
-    ] {
+    for (at, byte, number) in TOO_MANY {
         let mut changed = bytes.clone();
         changed[at] = byte;
-        refuses(&book.key, &changed, Placed(65_535, 16), number, "a unit");
-        refuses(&book.key, &changed, Placed(u64::MAX, 16), number, "a unit");
-        refuses(&book.key[1..], &changed, Placed(65_535, 16), 2, "a unit");
+        for unit in [65_535, u64::MAX] {
+            let which = Placed(unit, FIRST_UNIT);
+            refuses(&book.key, &changed, which, number, "a unit");
+            refuses(&book.key[1..], &changed, which, 2, "a unit");
+        }
     }
 }
 
@@ -256,16 +245,18 @@ fn opening_fields_first() {
     let mut random = Random::new(SEED + 6);
     let book = random_book(&mut random, (1, 10), 1, 9);
     let (bytes, _) = written(&book);
-    for at in [0, 3, 16, bytes.len() - 24, bytes.len(), usize::MAX] {
-        refuses(&book.key[..15], &[], Placed(0, at), 2, "no book");
-        refuses(&book.key, &[], Placed(0, at), 14, "no book");
-        refuses(&book.key, &bytes[..15], Placed(0, at), 14, "15 bytes");
-        refuses(&book.key, &bytes[..16], Placed(0, at), 14, "16 bytes");
-        let mut changed = bytes.clone();
-        changed[15] = 0;
-        refuses(&book.key, &changed, Placed(0, at), 1, "no suite");
-        changed[11] = 0x12;
-        refuses(&book.key, &changed, Placed(0, at), 14, "no field 02");
+    for at in [
+        0,
+        3,
+        16,
+        bytes.len() - raw::CLOSE_ROOM,
+        bytes.len(),
+        usize::MAX,
+    ] {
+        for (changed, number) in bad_openings(&bytes) {
+            refuses(&book.key[..15], &changed, Placed(0, at), 2, "a key");
+            refuses(&book.key, &changed, Placed(0, at), number, "an opening");
+        }
     }
     let mut changed = bytes.clone();
     for cipher in 0..=255 {
@@ -276,7 +267,7 @@ fn opening_fields_first() {
                 _ if listed(cipher, steps) => Err(8),
                 _ => Err(1),
             };
-            fetch_gives(&book.key, &changed, Placed(0, 16), 20, &answer, "");
+            fetch_gives(&book.key, &changed, Placed(0, FIRST_UNIT), 20, &answer, "");
         }
     }
 }
@@ -304,7 +295,13 @@ fn inside_the_opening_fields() {
         let (bytes, _) = written(&book);
         let name = format!("book {number:X}");
         refuses(&book.key, &bytes, Placed(unit, at), refusal, &name);
-        fetches(&book.key, &bytes, Placed(0, 16), &book.units[0], &name);
+        fetches(
+            &book.key,
+            &bytes,
+            Placed(0, FIRST_UNIT),
+            &book.units[0],
+            &name,
+        );
     }
 }
 
@@ -346,7 +343,7 @@ fn inside_a_ciphertext() {
         );
         refuses(
             &book.key,
-            &bytes[..end + 24],
+            &bytes[..end + raw::CLOSE_ROOM],
             Placed(701, end),
             16,
             "none behind it",
@@ -403,7 +400,7 @@ fn random_places() {
         count(&fetched(
             &book.key,
             &frames,
-            Placed(number, 16),
+            Placed(number, FIRST_UNIT),
             out_len,
             &name,
         ));

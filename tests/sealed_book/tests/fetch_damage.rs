@@ -8,16 +8,15 @@ use common::fetching::{
     fetch_gives, fetched, fetches, of_book, refuses, Answer, Which::Walked, ROOM,
 };
 use common::parts::{
-    close_fields, places, random_book, renumber, three_units, unit_fields, unit_len, written,
-    Parts, CIPHERTEXT,
+    close_fields, random_book, renumber, three_units, unit_fields, written, Parts,
 };
 use common::spoiling::{damage, some_frames};
 use common::swapped;
 use common::writing::unit;
-use reference::book::{Book, Unit};
+use reference::book::{places, unit_len, Book, Unit, CIPHERTEXT};
 use reference::cipher::SUITES;
 use reference::random::Random;
-use sealed_book::raw::{check, fetch};
+use sealed_book::raw::{check, fetch, CLOSE_ROOM};
 use sealed_book::Refusal;
 
 const SEED: u64 = 0x4644_414D;
@@ -208,7 +207,7 @@ fn bytes_taken_away_and_put_in() {
             let name = format!("{byte:02X} put in at {at}");
             assert_damaged(&[start, &[byte], rest].concat(), &name);
         }
-        let close = &bytes[bytes.len() - 24..];
+        let close = &bytes[bytes.len() - CLOSE_ROOM..];
         for more in [&[0][..], &[0x10], &[0x20], &[0xFF; 24], close, &bytes] {
             let name = format!("{} bytes left over", more.len());
             let answers = fetch_each(&book, &[&bytes, more].concat(), &name);

@@ -11,9 +11,10 @@ use common::parts::{close_fields, random_book, unit_fields, written, Parts};
 use common::spoiled::{spoiled, Cause, Cause::*, CLOSE, UNIT_FRAME, WALK};
 use common::spoiling::{text, LONG_TEXTS};
 use common::{codes_with_each_byte, UNLISTED};
-use reference::book::{Book, Unit};
+use reference::book::{places, Book, Unit};
 use reference::cipher::{listed, SUITES};
 use reference::random::Random;
+use sealed_book::raw::CLOSE_ROOM;
 
 const SEED: u64 = 0x4652_4546;
 
@@ -220,10 +221,11 @@ fn every_number() {
     let mut random = Random::new(SEED + 8);
     let book = random_book(&mut random, (1, 6), 2, 3);
     let (bytes, _) = written(&book);
-    let close = bytes.len() - 24;
-    let second = 16 + 33 + book.units[0].source.len() + book.units[0].target.len();
+    let [first, second, close] = places(&book)[..] else {
+        panic!("two units");
+    };
     for (running, at, ks) in [
-        (0, 16, &[0, 1, 2][..]),
+        (0, first, &[0, 1, 2][..]),
         (1, second, &[1, 2]),
         (2, close, &[2, u64::MAX]),
     ] {
@@ -314,7 +316,7 @@ fn every_next_byte() {
     for units in [0, 1] {
         let book = random_book(&mut random, (1, 6), units, 20);
         let (whole, _) = written(&book);
-        let (start, close) = whole.split_at(whole.len() - 24);
+        let (start, close) = whole.split_at(whole.len() - CLOSE_ROOM);
         for k in [units as u64, 7] {
             for byte in 0..=255 {
                 let behind = [start, &[byte]].concat();

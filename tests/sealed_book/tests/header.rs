@@ -4,10 +4,40 @@ use std::env;
 use std::path::PathBuf;
 use std::process::Command;
 
+use reference::sealing::{header_limit, text_limit};
 use reference::writer::{start, Answer, Writer};
+use sealed_book::{raw, Refusal};
 
 fn hex(bytes: &[u8]) -> String {
     bytes.iter().map(|byte| format!("{byte:02X}")).collect()
+}
+
+/// What the client says about version, lengths and limits: those of the crate for Rust, and of sealing the
+/// reference's.
+fn about_lengths() -> Vec<String> {
+    let lengths = [
+        raw::KEY_LEN,
+        raw::BLOCK_LEN,
+        raw::TAG_LEN,
+        raw::NONCE_MAX,
+        raw::LEN,
+        raw::SEGMENT_MAX,
+        raw::UNIT_MAX,
+        raw::UNITS_MAX as usize,
+        raw::CODE_LEN,
+        raw::CODE_ROOM,
+        raw::FIRST_UNIT,
+        raw::CLOSE_ROOM,
+    ];
+    let [unit, book] = [raw::unit_room(5, 6), raw::book_room(1, 11)];
+    let longest = raw::book_room(65_535, 65_535 * 8_192);
+    let mut lines = vec![
+        "version 2".to_string(),
+        format!("lengths {}", lengths.map(|len| len.to_string()).join(" ")),
+        format!("rooms {unit} {book} {longest}"),
+    ];
+    lines.extend((1..=15).map(|n| format!("limits {n} {} {}", header_limit(n), text_limit(n))));
+    lines
 }
 
 /// What the client says about its book, from the reference.
@@ -21,7 +51,6 @@ fn about_the_book() -> Vec<String> {
     let added = passed(started.add(&mut book, *b"en", *b"de", b"valve", b"Ventil"));
     let closed = passed(added.close(&mut book));
     let [started, added, closed] = [started, added, closed].map(|writer| hex(&writer.encoded()));
-    let zeros = hex(&[0; 64]);
     let untouched = hex(&[0xFF; 12]);
     let unit = hex(b"valveVentil\xFF");
     vec![
@@ -42,12 +71,58 @@ fn about_the_book() -> Vec<String> {
         format!("fetch 0 {unit}"),
         "source 5 target 6".to_string(),
         format!("fetch at 0 {unit}"),
+        "source 5 target 6 next 60".to_string(),
         format!("fetch at 16 {unit}"),
+        "source 7 target 8 next 60".to_string(),
         "fetch 2 ".to_string(),
         "ciphertext 28 13".to_string(),
         "ciphertext 0 0".to_string(),
         "ciphertext 0 0".to_string(),
-        format!("texts {}", 18 * 17 / 2),
+    ]
+}
+
+/// What it says of the book in the clear.
+fn in_the_clear() -> Vec<String> {
+    let untouched = hex(&[0xFF; 4]);
+    let [en, de] = [b"en\0\0", b"de\0\0"].map(|code| hex(code));
+    let unit = [
+        format!("to 2 {de}"),
+        "from 2 ciphertext 28 13 next 60".to_string(),
+    ];
+    let mut lines = vec![
+        "info 14 7 8 9".to_string(),
+        "info 0 1 10 7".to_string(),
+        format!("unit at 14 {untouched}"),
+        format!("unit at 0 {en}"),
+    ];
+    lines.extend(unit.clone());
+    lines.extend([
+        format!("unit at 16 {de}"),
+        format!("unit 14 {untouched}"),
+        format!("unit 16 {untouched}"),
+        format!("unit 0 {en}"),
+        unit[0].clone(),
+        format!("at 16 {}", unit[1]),
+    ]);
+    lines
+}
+
+/// The words of each refusal: those of the crate for Rust.
+fn texts() -> Vec<String> {
+    let text = |number: u32| match Refusal::from_number(number) {
+        Some(refusal) => refusal.to_string(),
+        None if number == 0 => "done".to_string(),
+        None => "no refusal has this number".to_string(),
+    };
+    (0..=40)
+        .map(|number| format!("text {number} {}", text(number)))
+        .collect()
+}
+
+/// What it says last.
+fn at_last() -> Vec<String> {
+    let zeros = hex(&[0; 64]);
+    vec![
         "check 8 units 7 calls 8".to_string(),
         "check 2 units 7 calls 8".to_string(),
         "check 14 units 7 calls 8".to_string(),
@@ -117,6 +192,26 @@ fn client_in_c() {
         "none 2 ".to_string(),
     ];
     let text = String::from_utf8(output.stdout).expect("text");
-    let expected = [&expected[..], &about_the_book()].concat();
+    let book = [about_the_book(), in_the_clear(), texts(), at_last()].concat();
+    let expected = [&about_lengths()[..], &expected, &book].concat();
     assert_eq!(text.lines().collect::<Vec<_>>(), expected);
+}
+
+/// The lengths and limits are those of the scope.
+#[test]
+fn lengths_and_limits() {
+    assert_eq!((raw::KEY_LEN, raw::BLOCK_LEN, raw::TAG_LEN), (16, 16, 16));
+    assert_eq!((raw::NONCE_MAX, raw::LEN), (15, 64));
+    assert_eq!((raw::SEGMENT_MAX, raw::UNIT_MAX), (4_096, 8_192));
+    assert_eq!((raw::UNITS_MAX, raw::CODE_LEN), (65_535, 2));
+    // "A book takes 16 + the sum of (33 + s + t) + 24 bytes."
+    assert_eq!((raw::FIRST_UNIT, raw::CLOSE_ROOM), (16, 24));
+    assert_eq!((raw::unit_room(5, 6), raw::book_room(1, 11)), (44, 84));
+    for n in 1..=raw::NONCE_MAX {
+        assert_eq!(raw::header_max(n), header_limit(n), "{n}");
+        assert_eq!(raw::text_max(n), text_limit(n), "{n}");
+    }
+    assert_eq!(raw::unit_room(usize::MAX, 1), usize::MAX);
+    assert_eq!(raw::book_room(usize::MAX, 0), usize::MAX);
+    assert_eq!(raw::book_room(0, usize::MAX), usize::MAX);
 }

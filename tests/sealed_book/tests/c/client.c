@@ -11,7 +11,15 @@ static void print(const char *name, uint32_t returned, const uint8_t *bytes, siz
 }
 
 int main(void) {
-    uint8_t key[16] = {0}, tweaks[40] = {0}, blocks[40] = {0};
+    uint8_t key[SB_KEY_LEN] = {0}, tweaks[40] = {0}, blocks[40] = {0};
+
+    printf("version %d\n", SB_VERSION);
+    printf("lengths %d %d %d %d %d %d %d %d %d %d %d %d\n", SB_KEY_LEN, SB_BLOCK_LEN, SB_TAG_LEN, SB_NONCE_MAX, SB_WRITER_LEN,
+           SB_SEGMENT_MAX, SB_UNIT_MAX, SB_UNITS_MAX, SB_CODE_LEN, SB_CODE_ROOM, SB_FIRST_UNIT, SB_CLOSE_ROOM);
+    printf("rooms %lu %lu %lu\n", (unsigned long)SB_UNIT_ROOM(5, 6), (unsigned long)SB_BOOK_ROOM(1, 5 + 6),
+           (unsigned long)SB_BOOK_ROOM(SB_UNITS_MAX, (size_t)SB_UNITS_MAX * SB_UNIT_MAX));
+    for (size_t n = 1; n <= SB_NONCE_MAX; n++)
+        printf("limits %lu %lu %lu\n", (unsigned long)n, (unsigned long)SB_HEADER_MAX(n), (unsigned long)SB_TEXT_MAX(n));
 
     print("encipher", sb_encipher(SB_SCREAM, 6, key, tweaks, blocks), blocks, 16);
     print("decipher", sb_decipher(SB_SCREAM, 6, key, tweaks, blocks), blocks, 16);
@@ -63,9 +71,10 @@ int main(void) {
     print("none", returned, NULL, 0);
 
     /* a book of one unit, in a buffer with 4 bytes to spare */
-    const uint8_t en[2] = {'e', 'n'}, de[2] = {'d', 'e'};
+    const uint8_t en[SB_CODE_LEN] = {'e', 'n'}, de[SB_CODE_LEN] = {'d', 'e'};
     const uint8_t valve[5] = {'v', 'a', 'l', 'v', 'e'}, ventil[6] = {'V', 'e', 'n', 't', 'i', 'l'};
-    uint8_t book[88], writer[SB_WRITER_LEN];
+    uint8_t book[SB_BOOK_ROOM(1, sizeof valve + sizeof ventil) + 4], writer[SB_WRITER_LEN];
+    const size_t book_len = sizeof book - 4;
     memset(book, 0xFF, sizeof book);
     memset(writer, 0xFF, sizeof writer);
     print("start", sb_start(SB_SCREAM, 10, key, sizeof key, 7, book, sizeof book, writer), writer, sizeof writer);
@@ -73,7 +82,7 @@ int main(void) {
     print("add", returned, writer, sizeof writer);
     print("languages", sb_add(writer, book, sizeof book, en, en, valve, sizeof valve, NULL, 0), writer, sizeof writer);
     print("segment", sb_add(writer, book, sizeof book, en, de, NULL, 0, NULL, 0), writer, sizeof writer);
-    print("short", sb_close(writer, book, 83), writer, sizeof writer);
+    print("short", sb_close(writer, book, book_len - 1), writer, sizeof writer);
     print("close", sb_close(writer, book, sizeof book), writer, sizeof writer);
     print("closed", sb_close(writer, book, sizeof book), book, sizeof book);
     printf("place %u units %u calls %u\n", (unsigned)sb_place(writer), (unsigned)sb_units(writer), (unsigned)sb_calls(writer));
@@ -83,46 +92,78 @@ int main(void) {
     calls = 8;
     returned = sb_check(key, sizeof key, book, sizeof book, &units, &calls);
     printf("check %u units %u calls %u\n", (unsigned)returned, (unsigned)units, (unsigned)calls);
-    returned = sb_check(key, sizeof key, book, 84, &units, &calls);
+    returned = sb_check(key, sizeof key, book, book_len, &units, &calls);
     printf("check %u units %u calls %u\n", (unsigned)returned, (unsigned)units, (unsigned)calls);
 
     /* its unit, walked to and at its place, an output one byte short, no such unit, and nothing lent; its ciphertext */
     uint8_t out[12];
     uint64_t source = 7, target = 8, at = 9, part = 9;
     memset(out, 0xFF, sizeof out);
-    returned = sb_fetch(key, sizeof key, book, 84, 0, out, 10, &source, &target);
+    returned = sb_fetch(key, sizeof key, book, book_len, 0, out, 10, &source, &target);
     print("fetch", returned, out, sizeof out);
     printf("source %u target %u\n", (unsigned)source, (unsigned)target);
-    returned = sb_fetch(key, sizeof key, book, 84, 1, out, sizeof out, &source, &target);
+    returned = sb_fetch(key, sizeof key, book, book_len, 1, out, sizeof out, &source, &target);
     print("fetch", returned, out, sizeof out);
     printf("source %u target %u\n", (unsigned)source, (unsigned)target);
-    returned = sb_fetch(key, sizeof key, book, 84, 0, out, sizeof out, &source, &target);
+    returned = sb_fetch(key, sizeof key, book, book_len, 0, out, sizeof out, &source, &target);
     print("fetch", returned, out, sizeof out);
     printf("source %u target %u\n", (unsigned)source, (unsigned)target);
     memset(out, 0xFF, sizeof out);
-    returned = sb_fetch_at(key, sizeof key, book, 84, 0, 16, out, sizeof out, &source, &target);
+    uint64_t next = 9;
+    returned = sb_fetch_at(key, sizeof key, book, book_len, 0, SB_FIRST_UNIT, out, sizeof out, &source, &target, &next);
     print("fetch at", returned, out, sizeof out);
-    returned = sb_fetch_at(key, sizeof key, book, 84, 1, 16 + 33 + (size_t)source + (size_t)target, out, sizeof out, &source, &target);
+    printf("source %u target %u next %u\n", (unsigned)source, (unsigned)target, (unsigned)next);
+    source = 7, target = 8;
+    returned = sb_fetch_at(key, sizeof key, book, book_len, 1, (size_t)next, out, sizeof out, &source, &target, &next);
     print("fetch at", returned, out, sizeof out);
+    printf("source %u target %u next %u\n", (unsigned)source, (unsigned)target, (unsigned)next);
     returned = sb_fetch(NULL, 0, NULL, 0, 0, NULL, 0, &source, &target);
     print("fetch", returned, NULL, 0);
-    sb_ciphertext(book, 84, 0, &at, &part);
+    sb_ciphertext(book, book_len, 0, &at, &part);
     printf("ciphertext %u %u\n", (unsigned)at, (unsigned)part);
-    sb_ciphertext(book, 84, 1, &at, &part);
+    sb_ciphertext(book, book_len, 1, &at, &part);
     printf("ciphertext %u %u\n", (unsigned)at, (unsigned)part);
     at = 9, part = 9;
     sb_ciphertext(NULL, 0, UINT64_MAX, &at, &part);
     printf("ciphertext %u %u\n", (unsigned)at, (unsigned)part);
 
-    /* each refusal has words of its own, and a number that is none has others */
-    unsigned i, j, texts = 0;
-    for (i = 0; i <= SB_NO_UNIT + 1; i++)
-        for (j = 0; j < i; j++) texts += strcmp(sb_refusal_text(i), sb_refusal_text(j)) != 0;
-    printf("texts %u\n", texts);
+    /* what stands in the clear: of the book, of its unit, at its place and walked to, of the close, and with nothing lent */
+    uint8_t cipher = 7, steps = 8, from[SB_CODE_ROOM], to[SB_CODE_ROOM];
+    uint64_t number = 9, from_len = 9, to_len = 9;
+    returned = sb_info(NULL, 0, &cipher, &steps, &number);
+    printf("info %u %u %u %u\n", (unsigned)returned, cipher, steps, (unsigned)number);
+    returned = sb_info(book, book_len, &cipher, &steps, &number);
+    printf("info %u %u %u %u\n", (unsigned)returned, cipher, steps, (unsigned)number);
+    at = 9, part = 9, next = 9;
+    memset(from, 0xFF, sizeof from);
+    memset(to, 0xFF, sizeof to);
+    returned = sb_unit_at(NULL, 0, 0, 0, from, &from_len, to, &to_len, &at, &part, &next);
+    print("unit at", returned, from, sizeof from);
+    returned = sb_unit_at(book, book_len, 0, SB_FIRST_UNIT, from, &from_len, to, &to_len, &at, &part, &next);
+    print("unit at", returned, from, sizeof from);
+    print("to", (uint32_t)to_len, to, sizeof to);
+    printf("from %u ciphertext %u %u next %u\n", (unsigned)from_len, (unsigned)at, (unsigned)part, (unsigned)next);
+    print("unit at", sb_unit_at(book, book_len, 1, (size_t)next, from, &from_len, to, &to_len, &at, &part, &next), to, sizeof to);
+    uint64_t begins = 9;
+    at = 9, part = 9, next = 9, from_len = 9, to_len = 9;
+    memset(from, 0xFF, sizeof from);
+    memset(to, 0xFF, sizeof to);
+    returned = sb_unit(NULL, 0, 0, &begins, from, &from_len, to, &to_len, &at, &part, &next);
+    print("unit", returned, from, sizeof from);
+    returned = sb_unit(book, book_len, 1, &begins, from, &from_len, to, &to_len, &at, &part, &next);
+    print("unit", returned, from, sizeof from);
+    returned = sb_unit(book, book_len, 0, &begins, from, &from_len, to, &to_len, &at, &part, &next);
+    print("unit", returned, from, sizeof from);
+    print("to", (uint32_t)to_len, to, sizeof to);
+    printf("at %u from %u ciphertext %u %u next %u\n", (unsigned)begins, (unsigned)from_len, (unsigned)at, (unsigned)part,
+           (unsigned)next);
+
+    /* the words of every refusal, and of numbers that are none */
+    for (unsigned i = 0; i <= 40; i++) printf("text %u %s\n", i, sb_refusal_text(i));
 
     units = 7, calls = 8;
-    book[83] ^= 1;
-    returned = sb_check(key, sizeof key, book, 84, &units, &calls);
+    book[book_len - 1] ^= 1;
+    returned = sb_check(key, sizeof key, book, book_len, &units, &calls);
     printf("check %u units %u calls %u\n", (unsigned)returned, (unsigned)units, (unsigned)calls);
     returned = sb_check(NULL, 0, NULL, 0, &units, &calls);
     printf("check %u units %u calls %u\n", (unsigned)returned, (unsigned)units, (unsigned)calls);

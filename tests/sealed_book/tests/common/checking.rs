@@ -1,14 +1,12 @@
 //! Checking in the library and in the reference, with every byte and number that is left compared.
 
-use std::hint::black_box;
-
 use reference::book::Book;
 use reference::check::check;
 use sealed_book::foreign::sb_check;
 use sealed_book::raw::{self, Checked};
 
-use super::guarded::{Numbers, GUARD};
-use super::{assert_same, pointer, refusal};
+use super::guarded::{Lent, Numbers};
+use super::{pointer, refusal};
 
 /// Unit count and call total, or a refusal's number.
 pub type Answer = Result<(u64, u64), u32>;
@@ -17,11 +15,10 @@ pub type Answer = Result<(u64, u64), u32>;
 /// wrapper; holds all that is left to the answer.
 pub fn check_gives(key: &[u8], book: &[u8], answer: Answer, name: &str) {
     let name = || format!("key {}, book {} bytes, {name}", key.len(), book.len());
-    let rooms = [key, book].map(|bytes| [&GUARD, bytes, &GUARD].concat());
-    let mut lent = rooms.clone();
-    let [key, book] = [0, 1].map(|i| &lent[i][GUARD.len()..lent[i].len() - GUARD.len()]);
+    let lent = [key, book].map(Lent::new);
+    let [key, book] = lent.each_ref().map(Lent::slice);
 
-    let mut numbers = Numbers::BEFORE;
+    let mut numbers = Numbers::before();
     let [units, calls] = numbers.pointers();
     // SAFETY: each slice is given with its length, and both numbers are there.
     let returned = unsafe {
@@ -34,8 +31,8 @@ pub fn check_gives(key: &[u8], book: &[u8], answer: Answer, name: &str) {
             calls,
         )
     };
-    let expected = answer.map_or(Numbers::BEFORE, |(units, calls)| {
-        Numbers::with(units, calls)
+    let expected = answer.map_or(Numbers::before(), |(units, calls)| {
+        Numbers::with([units, calls])
     });
     assert_eq!(returned, answer.err().unwrap_or(0), "{}", name());
     assert_eq!(numbers, expected, "units and calls, {}", name());
@@ -43,9 +40,8 @@ pub fn check_gives(key: &[u8], book: &[u8], answer: Answer, name: &str) {
     let expected = answer.map(|(units, calls)| Checked { units, calls });
     let returned = raw::check(key, book);
     assert_eq!(returned, expected.map_err(refusal), "{}", name());
-    black_box(&mut lent);
-    for (lent, room) in lent.iter().zip(&rooms) {
-        assert_same(lent, room, || format!("lent to be read: {}", name()));
+    for lent in lent {
+        lent.assert_unchanged(name);
     }
 }
 

@@ -1,18 +1,18 @@
 //! Fetching in the library and in the reference, with every byte and number that is left compared.
 
-use std::hint::black_box;
 use std::ops::Range;
 
-use reference::book::{Book, Unit};
+use reference::book::{unit_len, Book, Unit};
 use reference::fetch as second;
 use reference::fetch::Fetched;
 use sealed_book::foreign::{sb_ciphertext, sb_fetch, sb_fetch_at};
+use sealed_book::raw;
 
-use super::guarded::{Numbers, Output, GUARD};
-use super::{assert_same, pointer, refusal};
+use super::guarded::{Lent, Numbers, Output};
+use super::{pointer, refusal};
 
 /// An output in which every unit has room.
-pub const ROOM: usize = 8_192;
+pub const ROOM: usize = raw::UNIT_MAX;
 
 /// Source and target, or a refusal's number.
 pub type Answer = Result<Fetched, u32>;
@@ -46,8 +46,23 @@ pub fn of_book(book: &Book, k: u64) -> Answer {
 pub fn answer_of(key: &[u8], book: &[u8], which: Which, out_len: usize) -> Answer {
     match which {
         Walked(k) => second::fetch(key, book, k, out_len),
-        Placed(number, at) => second::fetch_at(key, book, number, at, out_len),
+        Placed(number, at) => {
+            let (unit, next) = second::fetch_at(key, book, number, at, out_len)?;
+            assert_eq!(next, behind(at, &unit), "reference: {which:?}");
+            Ok(unit)
+        }
     }
+}
+
+/// Where the next unit begins, or the close, if this unit stands at a place.
+fn behind(at: usize, unit: &Fetched) -> usize {
+    let unit = Unit {
+        from: *b"en",
+        to: *b"de",
+        source: unit.source.clone(),
+        target: unit.target.clone(),
+    };
+    at + unit_len(&unit)
 }
 
 /// Has the library fetch into an output of this length as C does, with null for a slice of length 0,
@@ -65,19 +80,18 @@ pub fn fetch_gives(
         key.len(),
         book.len()
     );
-    let rooms = [key, book].map(|bytes| [&GUARD, bytes, &GUARD].concat());
-    let mut lent = rooms.clone();
-    let [key, book] = [0, 1].map(|i| &lent[i][GUARD.len()..lent[i].len() - GUARD.len()]);
+    let lent = [key, book].map(Lent::new);
+    let [key, book] = lent.each_ref().map(Lent::slice);
     let (number, result) = match answer {
         Ok(unit) => (0, unit.written()),
         Err(number) => (*number, Vec::new()),
     };
 
     let mut out = Output::new(out_len);
-    let mut numbers = Numbers::BEFORE;
-    let [source, target] = numbers.pointers();
+    let mut numbers = Numbers::before();
+    let [source, target, next] = numbers.pointers();
     let out_start = out.pointer();
-    // SAFETY: each slice is given with its length, and both numbers are there.
+    // SAFETY: each slice is given with its length, and the numbers are there.
     let returned = unsafe {
         let (key_start, book_start) = (pointer(key), pointer(book));
         let (key_len, book_len) = (key.len(), book.len());
@@ -87,35 +101,44 @@ pub fn fetch_gives(
             ),
             Placed(number, at) => sb_fetch_at(
                 key_start, key_len, book_start, book_len, number, at, out_start, out_len, source,
-                target,
+                target, next,
             ),
         }
     };
-    let expected = match answer {
-        Ok(unit) => Numbers::with(unit.source.len() as u64, unit.target.len() as u64),
-        Err(_) => Numbers::BEFORE,
+    // fetching behind a walk does not say where the next one begins
+    let next = match (which, answer) {
+        (Placed(_, at), Ok(unit)) => Some(behind(at, unit)),
+        _ => None,
     };
+    let lengths = answer
+        .as_ref()
+        .map(|unit| (unit.source.len(), unit.target.len()));
+    let mut expected = Numbers::before();
+    if let Ok((source, target)) = lengths {
+        expected.set(0, source as u64);
+        expected.set(1, target as u64);
+    }
+    if let Some(next) = next {
+        expected.set(2, next as u64);
+    }
     assert_eq!(returned, number, "{name}");
-    assert_eq!(numbers, expected, "lengths, {name}");
+    assert_eq!(numbers, expected, "lengths and next, {name}");
     out.assert_begins_with(&result, &name);
 
     let mut out = Output::new(out_len);
     let returned = match which {
-        Walked(k) => sealed_book::raw::fetch(key, book, k, out.slice()),
-        Placed(number, at) => sealed_book::raw::fetch_at(key, book, number, at, out.slice()),
+        Walked(k) => raw::fetch(key, book, k, out.slice()).map(|lengths| (lengths, None)),
+        Placed(number, at) => raw::fetch_at(key, book, number, at, out.slice())
+            .map(|fetched| (fetched.lengths, Some(fetched.next))),
     };
-    let expected = match answer {
-        Ok(unit) => Ok(sealed_book::raw::Fetched {
-            source: unit.source.len(),
-            target: unit.target.len(),
-        }),
+    let expected = match lengths {
+        Ok((source, target)) => Ok((raw::Fetched { source, target }, next)),
         Err(number) => Err(refusal(*number)),
     };
     assert_eq!(returned, expected, "{name}");
     out.assert_begins_with(&result, &name);
-    black_box(&mut lent);
-    for (lent, room) in lent.iter().zip(&rooms) {
-        assert_same(lent, room, || format!("lent to be read: {name}"));
+    for lent in lent {
+        lent.assert_unchanged(|| name.clone());
     }
 }
 
@@ -152,19 +175,17 @@ pub fn refuses(key: &[u8], book: &[u8], which: Which, number: u32, name: &str) {
 /// Has the library say where the ciphertext of unit k stands, as C does and through the wrapper.
 pub fn part_gives(book: &[u8], k: u64, part: Range<usize>, name: &str) {
     let name = || format!("ciphertext of {k}, book {} bytes, {name}", book.len());
-    let room = [&GUARD, book, &GUARD].concat();
-    let mut lent = room.clone();
-    let book = &lent[GUARD.len()..room.len() - GUARD.len()];
+    let lent = Lent::new(book);
+    let book = lent.slice();
 
-    let mut numbers = Numbers::BEFORE;
+    let mut numbers = Numbers::before();
     let [at, len] = numbers.pointers();
     // SAFETY: the slice is given with its length, and both numbers are there.
     unsafe { sb_ciphertext(pointer(book), book.len(), k, at, len) };
-    let expected = Numbers::with(part.start as u64, part.len() as u64);
+    let expected = Numbers::with([part.start as u64, part.len() as u64]);
     assert_eq!(numbers, expected, "{}", name());
-    assert_eq!(sealed_book::raw::ciphertext(book, k), part, "{}", name());
-    black_box(&mut lent);
-    assert_same(&lent, &room, || format!("lent to be read: {}", name()));
+    assert_eq!(raw::ciphertext(book, k), part, "{}", name());
+    lent.assert_unchanged(name);
 }
 
 /// The same with the answer of the reference, which is returned; it lies within the book.

@@ -1,6 +1,9 @@
 //! What a call may write, with guards around it, and bytes and numbers that are known before the call.
 
+use std::hint::black_box;
 use std::ptr::null_mut;
+
+use super::assert_same;
 
 /// Bytes before and after an output, and before and after what is lent to be read.
 pub const GUARD: [u8; 32] = [0x5A; 32];
@@ -47,31 +50,63 @@ fn filler(i: usize) -> u8 {
     ((i as u64 + 1).wrapping_mul(0x9E37_79B9_7F4A_7C15) >> 56) as u8
 }
 
-/// Two numbers that a call may write, at 2 and 4, with guards around them.
+/// Numbers that a call may write, with guards before, between and behind them.
 #[derive(Clone, Debug, PartialEq)]
-pub struct Numbers([u64; 7]);
+pub struct Numbers<const N: usize>(Vec<u64>);
 
-impl Numbers {
+impl<const N: usize> Numbers<N> {
     /// As a call finds them, and leaves them where it refuses.
-    pub const BEFORE: Numbers = Numbers([
-        0x1111_1111_1111_1111,
-        0x2222_2222_2222_2222,
-        0x0123_4567_89AB_CDEF,
-        0x3333_3333_3333_3333,
-        0xFEDC_BA98_7654_3210,
-        0x4444_4444_4444_4444,
-        0x5555_5555_5555_5555,
-    ]);
+    pub fn before() -> Numbers<N> {
+        Numbers((1..2 * N as u64 + 4).map(|i| i * 0x1111_1111).collect())
+    }
 
-    /// As a call leaves them that writes these two.
-    pub fn with(one: u64, other: u64) -> Numbers {
-        let mut numbers = Numbers::BEFORE;
-        (numbers.0[2], numbers.0[4]) = (one, other);
+    /// As a call leaves them that writes these.
+    pub fn with(written: [u64; N]) -> Numbers<N> {
+        let mut numbers = Numbers::before();
+        for (i, number) in written.into_iter().enumerate() {
+            numbers.set(i, number);
+        }
         numbers
     }
 
-    pub fn pointers(&mut self) -> [*mut u64; 2] {
+    /// Number i is written.
+    pub fn set(&mut self, i: usize, number: u64) {
+        self.0[Self::place(i)] = number;
+    }
+
+    pub fn pointers(&mut self) -> [*mut u64; N] {
         let start = self.0.as_mut_ptr();
-        [2, 4].map(|at| start.wrapping_add(at))
+        std::array::from_fn(|i| start.wrapping_add(Self::place(i)))
+    }
+
+    /// Two guards stand before the first and behind the last, and one between two.
+    fn place(i: usize) -> usize {
+        2 + 2 * i
+    }
+}
+
+/// Bytes that are lent to be read, with guards around them.
+pub struct Lent {
+    room: Vec<u8>,
+    lent: Vec<u8>,
+}
+
+impl Lent {
+    pub fn new(bytes: &[u8]) -> Lent {
+        let room = [&GUARD, bytes, &GUARD].concat();
+        let lent = room.clone();
+        Lent { room, lent }
+    }
+
+    pub fn slice(&self) -> &[u8] {
+        &self.lent[GUARD.len()..self.lent.len() - GUARD.len()]
+    }
+
+    /// Neither they nor the guards are changed.
+    pub fn assert_unchanged(mut self, name: impl Fn() -> String) {
+        black_box(&mut self.lent);
+        assert_same(&self.lent, &self.room, || {
+            format!("lent to be read: {}", name())
+        });
     }
 }

@@ -1,11 +1,12 @@
 //! Both directions of a cipher, in the library and in the reference; sealing; writing and checking a
-//! book, and fetching from it; and causes of refusal.
+//! book, fetching from it, and what it says in the clear; and causes of refusal.
 
 // Each test file uses a part of this.
 #![allow(dead_code)]
 
 pub mod causes;
 pub mod checking;
+pub mod clearing;
 pub mod fetching;
 pub mod guarded;
 pub mod parts;

@@ -1,8 +1,8 @@
 //! The parts of a book, written by the library, or sealed with it one by one.
 
-use reference::book::{field, Book, Unit};
+use reference::book::{field, unit_len, Book};
 use reference::random::Random;
-use sealed_book::raw::{seal, Writer};
+use sealed_book::raw::{book_room, seal, Writer, CLOSE_ROOM, FIRST_UNIT};
 
 use super::writing::unit;
 
@@ -28,26 +28,11 @@ pub fn renumber(unit: &mut [u8], number: u8) {
     unit[4] = number;
 }
 
-/// Where a unit's ciphertext begins.
-pub const CIPHERTEXT: usize = 12;
-
-/// How many bytes a unit takes.
-pub fn unit_len(unit: &Unit) -> usize {
-    33 + unit.source.len() + unit.target.len()
-}
-
-/// Where each unit begins, and then the close.
-pub fn places(book: &Book) -> Vec<usize> {
-    let mut places = vec![16];
-    for unit in &book.units {
-        places.push(places[places.len() - 1] + unit_len(unit));
-    }
-    places
-}
-
 /// The book's bytes as the library's writer leaves them, and that writer.
 pub fn written(book: &Book) -> (Vec<u8>, Writer) {
-    let mut buffer = vec![0; 16 + book.units.iter().map(unit_len).sum::<usize>() + 24];
+    let segments = book.units.iter();
+    let segments = segments.map(|unit| unit.source.len() + unit.target.len());
+    let mut buffer = vec![0; book_room(book.units.len(), segments.sum())];
     let (mut writer, mut answer) =
         Writer::start(book.cipher, book.steps, &book.key, book.number, &mut buffer);
     assert_eq!(answer, Ok(()));
@@ -82,9 +67,9 @@ impl Parts {
         };
         let units = book.units.iter();
         Parts {
-            opening: cut(16),
+            opening: cut(FIRST_UNIT),
             units: units.map(|unit| cut(unit_len(unit))).collect(),
-            close: cut(24),
+            close: cut(CLOSE_ROOM),
         }
     }
 

@@ -148,6 +148,49 @@ pub fn some_frames(random: &mut Random, book: &Book) -> Vec<u8> {
     fields.concat()
 }
 
+/// Bytes that are changed in a book with one unit, and what is then said of it as unit 65,535 or a later
+/// one: 13 comes before its number, its languages and the rest are looked at, and behind its header's field
+/// and all of the opening fields.
+pub const TOO_MANY: [(usize, u8, u32); 9] = [
+    (20, 1, 13),
+    (21, 0, 13),
+    (25, 0, 13),
+    (27, 2, 13),
+    (16, 0x11, 14),
+    (18, 7, 14),
+    (15, 5, 1),
+    (14, 0, 1),
+    (13, 3, 14),
+];
+
+/// Books that are refused for their opening fields, or end behind these, with the refusal, whatever else
+/// they are asked for. They are made from this one.
+pub fn bad_openings(bytes: &[u8]) -> [(Vec<u8>, u32); 5] {
+    let with = |changes: &[(usize, u8)]| {
+        let mut changed = bytes.to_vec();
+        for (at, byte) in changes {
+            changed[*at] = *byte;
+        }
+        changed
+    };
+    [
+        (Vec::new(), 14),
+        (bytes[..15].to_vec(), 14),
+        (bytes[..16].to_vec(), 14),
+        (with(&[(15, 0)]), 1),
+        (with(&[(15, 0), (11, 0x12)]), 14),
+    ]
+}
+
+/// Places of a book of so many bytes, and many past its end: such as would be these places in fewer bits, and
+/// the last that there are.
+pub fn some_places(len: usize, places: &[usize]) -> Vec<usize> {
+    let wide = [1 << 16, 1 << 32, 1 << 63];
+    let wide = wide.map(|wide| places.iter().map(|at| at + wide).collect::<Vec<_>>());
+    let last = (0..70).map(|n| usize::MAX - n);
+    (0..=len + 40).chain(wide.concat()).chain(last).collect()
+}
+
 /// Long texts: a source length s, how many bytes follow it, and the refusal: s and t at their limits, and
 /// a text at its limit.
 pub const LONG_TEXTS: [(usize, usize, Option<u32>); 14] = [
