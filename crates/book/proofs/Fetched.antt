@@ -12,7 +12,7 @@ use Rattle.fields.specs.Unit.{BookUnit}
 use Rattle.format.specs.Layout.{bookBytes, Bookable}
 use Rattle.reader.specs.Check.{checkAnswer}
 use Rattle.reader.specs.declared.check.CheckAnswer.the-variants.{Accepted}
-use Rattle.fetch.specs.Exact.{HandsOut, NoUnit, PartOf, StandsAt, SaysClear}
+use Rattle.fetch.specs.Exact.{HandsOut, NoUnit, ClosesAt, PartOf, placeBehind, StandsAt, SaysClear}
 use Rattle.fetch.proofs.Exact.{fetches-units}
 use Rattle.book.specs.Demand3.{History, after, unitsAdded, LeavesBook}
 use Rattle.book.specs.Fetched.{FetchesBook, FetchLaw}
@@ -44,10 +44,15 @@ module _ (q : BookKind) (h : History (kindOf q)) {key x : List ℕ} (l : LeavesB
       rw (left-book (kindOf q) (formed q) h l) at
       (fetches-units q .none (h .start .suite) key (h .start .number) (unitsAdded h) (left-bookable (kindOf q) (formed q) h l) k past)
 
+  closes-of : ClosesAt key x (length (unitsAdded h)) (placeBehind (kindOf q) (h .start .suite) key (h .start .number) (unitsAdded h))
+  closes-of =
+      rw (left-book (kindOf q) (formed q) h l) at
+      (fetches-units q .closes (h .start .suite) key (h .start .number) (unitsAdded h) (left-bookable (kindOf q) (formed q) h l))
+
   fetches : (n : ℕ) → after h .writer .count ≡ n → FetchesBook h key x n
   fetches n count =
       let all : length (unitsAdded h) ≡ n = left-counted (kindOf q) (formed q) h l ∙ count in
-      record { count = all; unit = unit-of; none = λ k past. none-of k (omega arith); part = part-of; placed = placed-of; clear = clear-of }
+      record { count = all; unit = unit-of; none = λ k past. none-of k (omega arith); part = part-of; placed = placed-of; clear = clear-of; closes = closes-of }
 
 -- check counts the units of every such list
 counted : {key x : List ℕ} → Bytes key → Bytes x → (n t : ℕ) → checkAnswer key x ≡ Accepted n t

@@ -11,7 +11,7 @@ use Rattle.reader.specs.Check.{checkAnswer}
 use Rattle.reader.specs.declared.check.CheckAnswer.the-variants.{Accepted}
 use Rattle.kinds.specs.declared.Kind.{Kind as BookKind}
 use Rattle.kinds.specs.Kind.{kindOf}
-use Rattle.fetch.specs.Exact.{HandsOut, NoUnit, PartOf, StandsAt, SaysClear}
+use Rattle.fetch.specs.Exact.{HandsOut, NoUnit, ClosesAt, PartOf, placeBehind, StandsAt, SaysClear}
 use Rattle.book.specs.Demand3.{History, unitsAdded, LeavesBook}
 
 -- what fetch gives of a string x that a list of calls leaves under a key, of which n units are counted
@@ -30,6 +30,8 @@ pub record FetchesBook {kind : Kind} (list : History kind) (key x : List ℕ) (n
   -- what is said in the clear is that unit's
   pub clear : (before : List BookUnit) (u : BookUnit) (after : List BookUnit) → unitsAdded list ≡ before ++ u ∷ after
       → SaysClear kind (list .start .suite) key (list .start .number) before u x
+  -- and at the place behind the last unit stands the close: 16
+  pub closes : ClosesAt key x (length (unitsAdded list)) (placeBehind kind (list .start .suite) key (list .start .number) (unitsAdded list))
 
 -- in a book that check accepts, and of every list that leaves it; there is one by demand 3 (3)
 pub record FetchLaw : Type 0 where

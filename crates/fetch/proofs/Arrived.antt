@@ -30,7 +30,7 @@ use Rattle.parser.proofs.Openings.{opening-here, front-here}
 use Rattle.fetch.specs.declared.unit.FetchAnswer.the-variants.{Fetched, Refused as FetchRefused}
 use Rattle.walk.specs.Walk.{walkTo}
 use Rattle.walk.specs.Clear.{clearOf, clearUnless, placedClearOf, unitClearOf}
-use Rattle.fetch.specs.Fetch.{andThen, handedOut, roomTest, outcomeAt, textAt, fetchOutcome, fetchText, fetchReport, fetchAnswerOf, fetchAnswer, fetchBufferOf, fetchBuffer}
+use Rattle.fetch.specs.Fetch.{andThen, handedOut, roomTest, outcomeAt, textAt, fetchOutcome, fetchText, fetchReport, placedOutcome, fetchAnswerOf, fetchAnswer, fetchBufferOf, fetchBuffer}
 use Rattle.fetch.specs.Exact.{HandsOut}
 use Rattle.fetch.proofs.Reached.{endPlace}
 
@@ -70,6 +70,21 @@ module _ (kind : Kind) (suite : Suite) (key : List ℕ) (number : ℕ) (few : nu
       sym (drop-drop (length units) 16 x)
       ∙ ap (drop (length units)) (drop-at (openingFields suite number) (units ++ z) 16 (length-openingFields suite number))
       ∙ there
+
+  -- read at that place, whatever the number
+  pub placed-there : length key ≡ 16 → (n r : ℕ) → placedOutcome kind key x n (16 + length units) r ≡ outcomeAt kind key (openingFields suite number) n z r
+  unfolding placedOutcome checkTests
+  placed-there long n r =
+      let h = opening-here suite number (units ++ z) few allowed in
+      let front = front-here suite number (units ++ z) in
+      let tests : checkTests (length key) x ≡ Done = unless-passes (eqb (length key) 16) KeyLength (openingTests x) (eq-eqb (length key) 16 long) (h .0) in
+      λ i. andThen (tests i) (outcomeAt kind key (front i) n (there-whole i) r)
+
+  pub placed-clear-there : (n : ℕ) → placedClearOf kind n (16 + length units) x ≡ clearOf kind (16 + length units) z (frameAt kind n z)
+  unfolding placedClearOf
+  placed-clear-there n =
+      let h = opening-here suite number (units ++ z) few allowed in
+      λ i. clearUnless (h .0 i) (clearOf kind (16 + length units) (there-whole i) (frameAt kind n (there-whole i)))
 
   pub clear-there : unitClearOf kind k x ≡ clearOf kind (16 + length units) z (frameAt kind (length us) z)
   unfolding unitClearOf placedClearOf

@@ -15,7 +15,9 @@ use Rattle.fields.proofs.Each.{eachFrom-left, eachFrom-at}
 use Rattle.format.specs.Layout.{unitBytes, closeBytes, unitsBytes, bookBytes, Bookable}
 use Rattle.format.specs.Sealings.{openingFields, unitSealing, sealedBytes}
 use Rattle.format.proofs.Lengths.{length-openingFields, range-told, unitsBytes-snoc}
+use Rattle.suites.specs.declared.refusal.Answer.{Answer}
 use Rattle.suites.specs.declared.refusal.Answer.the-variants.{Done, Refused}
+use Rattle.sealing.specs.Seal.{written}
 use Rattle.kinds.specs.declared.Kind.{Kind as BookKind}
 use Rattle.kinds.specs.Kind.{kindOf, bookKind}
 use Rattle.kinds.specs.Lengths.{ciphertextAt, frameLength}
@@ -31,13 +33,13 @@ use Rattle.walk.specs.Walk.{walkTo}
 use Rattle.walk.specs.Ciphertext.{ciphertextPlace, ciphertextPart}
 use Rattle.walk.specs.Clear.{codeOf, noClear, clearOf, clearUnless, placedClearOf, placedClear, unitClearOf, unitClear}
 use Rattle.walk.proofs.Places.{clear-part}
-use Rattle.fetch.specs.Fetch.{fetchOutcome, fetchText, nextOf, fetchAnswerOf, fetchAnswer, fetchBufferOf, fetchBuffer, placedAnswerOf, placedAnswer, placedBufferOf, placedBuffer}
+use Rattle.fetch.specs.Fetch.{handedOut, fetchOutcome, fetchText, placedOutcome, placedText, placedReport, nextOf, fetchAnswerOf, fetchAnswer, fetchBufferOf, fetchBuffer, placedAnswerOf, placedAnswer, placedBufferOf, placedBuffer}
 use Rattle.fetch.specs.Hands.{withNext}
-use Rattle.fetch.specs.Exact.{HandsOut, NoUnit, PartOf, placeBehind, StandsAt, unitSays, SaysClear, FetchesUnits}
+use Rattle.fetch.specs.Exact.{HandsOut, NoUnit, ClosesAt, PartOf, placeBehind, StandsAt, unitSays, SaysClear, FetchesUnits}
 use Rattle.fetch.proofs.Cut.{behind, book-cut, front, length-front, length-ciphertext, front-is}
 use Rattle.fetch.proofs.Written.{unit-frame, unit-outcome, unit-text, unit-codes, close-frame, close-outcome}
 use Rattle.fetch.proofs.Reached.{endPlace, unit-length, walk-ends, walk-closes}
-use Rattle.fetch.proofs.Arrived.{outcome-there, text-there, there-whole, clear-there, refuses, hands-out}
+use Rattle.fetch.proofs.Arrived.{outcome-there, text-there, there-whole, placed-there, placed-clear-there, clear-there, refuses, hands-out}
 use Rattle.fetch.proofs.Handed.{fetch-placed}
 
 module _ (q : BookKind) (suite : Suite) (key : List ℕ) (number : ℕ) where
@@ -144,11 +146,10 @@ module _ (q : BookKind) (suite : Suite) (key : List ℕ) (number : ℕ) where
         ∙ clear-is
 
     placed-clear : placedClear n (16 + length units) x ≡ said
-    unfolding placedClear placedClearOf
+    unfolding placedClear
     placed-clear =
         ap (λ (p : BookKind). placedClearOf (kindOf p) n (16 + length units) x) own
-        ∙ (λ i. clearUnless (opening-here suite number (units ++ z) (b .numberFits) (b .listedSuite) .0 i)
-        (clearOf kind (16 + length units) (there i) (frameAt kind n (there i))))
+        ∙ placed-clear-there kind suite key number (b .numberFits) (b .listedSuite) before z n ends n
         ∙ clear-is
 
     -- where its ciphertext stands
@@ -250,6 +251,20 @@ module _ (q : BookKind) (suite : Suite) (key : List ℕ) (number : ℕ) where
         clear-there kind suite key number (b .numberFits) (b .listedSuite) us c k close-ends
         ∙ ap (clearOf kind (16 + length (unitsBytes kind suite key number 0 us)) c) closed
 
+    -- the close at its place
+    close-placed : (r : ℕ)
+        → placedOutcome (kindOf q) key (bookBytes (kindOf q) suite key number us) (length us) (placeBehind (kindOf q) suite key number us) r ≡ Refused NoSuchUnit
+    unfolding bookBytes
+    close-placed r =
+        placed-there kind suite key number (b .numberFits) (b .listedSuite) us c k close-ends (b .keyLong) (length us) r
+        ∙ close-outcome kind suite key number (b .numberFits) (b .keyLong) (b .keyBytes) (length us) (formed q) close-fits r
+
+    close-clear : placedClearOf (kindOf q) (length us) (placeBehind (kindOf q) suite key number us) (bookBytes (kindOf q) suite key number us) ≡ noClear NoSuchUnit
+    unfolding bookBytes
+    close-clear =
+        placed-clear-there kind suite key number (b .numberFits) (b .listedSuite) us c k close-ends (length us)
+        ∙ ap (clearOf kind (16 + length (unitsBytes kind suite key number 0 us)) c) closed
+
 -- by the book's own kind
 module _ (q : BookKind) (suite : Suite) (key : List ℕ) (number : ℕ) (us : List BookUnit) (b : Bookable (kindOf q) suite key number us) (k : ℕ) (past : length us ≤ k) where
   none-fetched : NoUnit key (bookBytes (kindOf q) suite key number us) k
@@ -268,6 +283,42 @@ module _ (q : BookKind) (suite : Suite) (key : List ℕ) (number : ℕ) (us : Li
         clear = clear;
       }
 
+module _ (q : BookKind) (suite : Suite) (key : List ℕ) (number : ℕ) (us : List BookUnit) (b : Bookable (kindOf q) suite key number us) where
+  -- where the close stands
+  abbrev at : ℕ
+  at = placeBehind (kindOf q) suite key number us
+
+  abbrev y : List ℕ
+  y = bookBytes (kindOf q) suite key number us
+
+  at-own : at ≡ placeBehind (kindOf (bookKind y)) suite key number us
+  at-own = sym (ap (λ (l : List ℕ). 16 + length l) (own-kind q suite key number us b .units))
+
+  closes-outcome : (r : ℕ) → placedOutcome (kindOf (bookKind y)) key y (length us) at r ≡ Refused NoSuchUnit
+  closes-outcome r =
+      let own = own-kind q suite key number us b in
+      (λ i. placedOutcome (kindOf (bookKind y)) key (sym (own .bytes) i) (length us) (at-own i) r)
+      ∙ close-placed (bookKind y) suite key number us (own .bookable) (length us) (omega arith) r
+
+  closes-clear : placedClearOf (kindOf (bookKind y)) (length us) at y ≡ noClear NoSuchUnit
+  closes-clear =
+      let own = own-kind q suite key number us b in
+      (λ i. placedClearOf (kindOf (bookKind y)) (length us) (at-own i) (sym (own .bytes) i))
+      ∙ close-clear (bookKind y) suite key number us (own .bookable) (length us) (omega arith)
+
+  closes : ClosesAt key y (length us) at
+  unfolding placedAnswer placedAnswerOf placedBuffer placedBufferOf placedClear
+  closes =
+      let text = placedText (kindOf (bookKind y)) key y (length us) at in
+      let next = nextOf (kindOf (bookKind y)) at (frameAt (kindOf (bookKind y)) (length us) (drop at y)) in
+      record {
+        refused = λ out. (
+          ap (λ (a : Answer). placedReport a text next) (closes-outcome (length out)),
+          ap (λ (a : Answer). written a (handedOut text) out) (closes-outcome (length out)),
+        );
+        clear = closes-clear;
+      }
+
 pub fetches-units : (q : BookKind) → FetchesUnits q
 fetches-units q =
     record {
@@ -276,4 +327,5 @@ fetches-units q =
       part = unit-part q;
       placed = unit-placed q;
       clear = unit-clear q;
+      closes = closes q;
     }

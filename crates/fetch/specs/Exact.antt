@@ -18,6 +18,7 @@ use Rattle.walk.specs.declared.clear.Clear.{Clear}
 use Rattle.walk.specs.Ciphertext.{ciphertextPlace, ciphertextPart}
 use Rattle.walk.specs.Clear.{codeOf, noClear, placedClear, unitClear}
 use Rattle.fetch.specs.declared.unit.FetchAnswer.the-variants.{Fetched, Refused}
+use Rattle.fetch.specs.declared.unit.PlacedAnswer.the-variants.{Refused as PlacedRefused}
 use Rattle.fetch.specs.Fetch.{fetchAnswer, fetchBuffer, placedAnswer, placedBuffer}
 use Rattle.fetch.specs.Hands.{withNext}
 
@@ -36,6 +37,11 @@ pub record NoUnit (key x : List ℕ) (k : ℕ) : Type 0 where
   pub refused : (out : List ℕ) → (fetchAnswer key x k out ≡ Refused NoSuchUnit) × (fetchBuffer key x k out ≡ out)
   pub empty : ciphertextPlace k x .len ≡ 0
   pub clear : unitClear k x ≡ noClear NoSuchUnit
+
+-- the same at the close's place, where n units stand before it: who goes from unit to unit ends there
+pub record ClosesAt (key x : List ℕ) (n at : ℕ) : Type 0 where
+  pub refused : (out : List ℕ) → (placedAnswer key x n at out ≡ PlacedRefused NoSuchUnit) × (placedBuffer key x n at out ≡ out)
+  pub clear : placedClear n at x ≡ noClear NoSuchUnit
 
 -- the ciphertext part is the value of field 11 of the unit u: the ciphertext of its sealing, and it stands behind the units before it, the
 -- unit's header and the head of that field
@@ -95,3 +101,6 @@ pub record FetchesUnits (k : BookKind) : Type 0 where
   pub clear : (suite : Suite) (key : List ℕ) (number : ℕ) (before : List BookUnit) (u : BookUnit) (after : List BookUnit)
       → Bookable (kindOf k) suite key number (before ++ u ∷ after)
       → SaysClear (kindOf k) suite key number before u (bookBytes (kindOf k) suite key number (before ++ u ∷ after))
+  -- until they meet the close
+  pub closes : (suite : Suite) (key : List ℕ) (number : ℕ) (us : List BookUnit) → Bookable (kindOf k) suite key number us
+      → ClosesAt key (bookBytes (kindOf k) suite key number us) (length us) (placeBehind (kindOf k) suite key number us)

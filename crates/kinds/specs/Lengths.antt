@@ -16,6 +16,10 @@ headerLength kind = 3 + headerBytes kind
 abbrev pub closeHeaderLength : Kind → ℕ
 closeHeaderLength kind = 3 + kind .numberBytes
 
+-- where the language codes stand in a unit: behind tag, length and number of its header
+abbrev pub codesAt : Kind → ℕ
+codesAt kind = 3 + kind .numberBytes
+
 -- where the ciphertext stands in a unit: behind its header, and tag and length of field 11
 abbrev pub ciphertextAt : Kind → ℕ
 ciphertextAt kind = headerLength kind + 3

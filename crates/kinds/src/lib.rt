@@ -2,7 +2,7 @@
 ghost use mathlib.Core.Path.{_≡_};
 ghost use Prim.Native.Nat.{_+_, _/_, _^_, _<_};
 ghost use Rattle.kinds.specs.Kind.{kindOf, newest, kindBy, bookKind};
-ghost use Rattle.kinds.specs.Lengths.{Small, headerBytes, headerLength, closeHeaderLength, ciphertextAt, frameLength, unitLength, closeLength, unitCalls, closeCalls};
+ghost use Rattle.kinds.specs.Lengths.{Small, headerBytes, headerLength, closeHeaderLength, codesAt, ciphertextAt, frameLength, unitLength, closeLength, unitCalls, closeCalls};
 
 // A kind has the name of the tag of its unit headers.
 pub enum Kind {
@@ -96,6 +96,13 @@ impl Kind {
     // How many bytes the first field of a close has.
     pub fn close_header_len(self) -> usize
         ensures { λ r. ⌜ Small 7 (closeHeaderLength (kindOf self)) r ⌝ }
+    {
+        3 + self.number_bytes()
+    }
+
+    // Where the language codes stand in a unit.
+    pub fn codes_at(self) -> usize
+        ensures { λ r. ⌜ Small 7 (codesAt (kindOf self)) r ⌝ }
     {
         3 + self.number_bytes()
     }

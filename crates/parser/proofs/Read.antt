@@ -14,7 +14,7 @@ use Rattle.fields.specs.Kind.{Kind}
 use Rattle.fields.specs.Unit.{detailsLength}
 use Rattle.kinds.specs.declared.Kind.{Kind as BookKind}
 use Rattle.kinds.specs.Kind.{kindOf}
-use Rattle.kinds.specs.Lengths.{headerLength, closeHeaderLength}
+use Rattle.kinds.specs.Lengths.{headerLength, closeHeaderLength, codesAt}
 use Rattle.kinds.proofs.Formed.{two-letters}
 use Rattle.parser.specs.Frame.{frameNumber, frameDetails, frameFrom, frameTo}
 
@@ -42,11 +42,11 @@ number-is kind s end e h =
 
 -- the codes in a unit's header
 module _ (kind : Kind) (s : List ℕ) (long : headerLength kind ≤ length s) where
-  from-is : frameFrom kind s ≡ take (kind .codeBytes) (drop (closeHeaderLength kind) s)
+  from-is : frameFrom kind s ≡ take (kind .codeBytes) (drop (codesAt kind) s)
   unfolding frameFrom frameDetails
   from-is = take-take (kind .codeBytes) (detailsLength kind) (drop (3 + kind .numberBytes) s) (omega arith)
 
-  to-is : frameTo kind s ≡ take (kind .codeBytes) (drop (closeHeaderLength kind + kind .codeBytes) s)
+  to-is : frameTo kind s ≡ take (kind .codeBytes) (drop (codesAt kind + kind .codeBytes) s)
   unfolding frameTo frameDetails
   to-is =
       let k = kind .codeBytes in
@@ -67,14 +67,14 @@ letters-at s at h =
 
 -- both codes of a unit's header, where they stand
 module _ (k : BookKind) (s : List ℕ) (long : headerLength (kindOf k) ≤ length s) (at : ℕ) where
-  pub from-letters : at ≡ closeHeaderLength (kindOf k) → getD s at 0 ∷ getD s (at + 1) 0 ∷ [] ≡ frameFrom (kindOf k) s
+  pub from-letters : at ≡ codesAt (kindOf k) → getD s at 0 ∷ getD s (at + 1) 0 ∷ [] ≡ frameFrom (kindOf k) s
   from-letters e =
       let two = two-letters k in
       letters-at s at (omega arith)
       ∙ (λ i. take (sym two i) (drop (e i) s))
       ∙ sym (from-is (kindOf k) s long)
 
-  pub to-letters : at ≡ closeHeaderLength (kindOf k) + kindOf k .codeBytes → getD s at 0 ∷ getD s (at + 1) 0 ∷ [] ≡ frameTo (kindOf k) s
+  pub to-letters : at ≡ codesAt (kindOf k) + kindOf k .codeBytes → getD s at 0 ∷ getD s (at + 1) 0 ∷ [] ≡ frameTo (kindOf k) s
   to-letters e =
       let two = two-letters k in
       letters-at s at (omega arith)

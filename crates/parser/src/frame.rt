@@ -29,14 +29,33 @@ fn number_at(kind: Kind, s: &[u8]) -> u64
     fields::number::of(&s[3..end])
 }
 
+// The codes of the two languages of a unit.
+pub struct Pair {
+    pub from: [u8; 2],
+    pub to: [u8; 2],
+}
+
+// The codes that stand there; for our own crates, which know that a whole header does.
+pub fn codes(kind: Kind, s: &[u8]) -> Pair
+    requires { ⌜ headerLength (kindOf kind) ≤ length (now s) ⌝ }
+    ensures { λ r. ⌜ (r .from ≡ frameFrom (kindOf kind) (now (s .entry))) × (r .to ≡ frameTo (kindOf kind) (now (s .entry))) ⌝ }
+{
+    let a = kind.codes_at();
+    let b = a + kind.code_bytes();
+    let from = [s[a], s[a + 1]];
+    let to = [s[b], s[b + 1]];
+    Pair { from, to }
+}
+
 // Whether a unit may have the languages that stand there.
 fn is_pair(kind: Kind, s: &[u8]) -> bool
     requires { ⌜ headerLength (kindOf kind) ≤ length (now s) ⌝ }
     ensures { λ r. ⌜ r ≡ pairAllowed (frameFrom (kindOf kind) (now (s .entry))) (frameTo (kindOf kind) (now (s .entry))) ⌝ }
 {
-    let from = kind.close_header_len();
-    let to = from + kind.code_bytes();
-    fields::unit::is_pair([s[from], s[from + 1]], [s[to], s[to + 1]])
+    let c = codes(kind, s);
+    let from = c.from;
+    let to = c.to;
+    fields::unit::is_pair(from, to)
 }
 
 // A close, where the running number is n. Refusals: 14, 15.

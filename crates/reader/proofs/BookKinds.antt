@@ -64,8 +64,10 @@ module _ (k : BookKind) (suite : Suite) (key : List ℕ) (number : ℕ) where
     pub bookable : Bookable (kindOf q) suite key number us
     pub bytes : bookBytes (kindOf q) suite key number us ≡ bookBytes (kindOf k) suite key number us
     pub sealings : bookSealings (kindOf q) suite number us ≡ bookSealings (kindOf k) suite number us
+    pub units : unitsBytes (kindOf q) suite key number 0 us ≡ unitsBytes (kindOf k) suite key number 0 us
 
   pub own-kind : (us : List BookUnit) → Bookable (kindOf k) suite key number us → OwnKind us (bookKind (bookBytes (kindOf k) suite key number us))
+  unfolding unitsBytes
   own-kind [] b =
       subst (OwnKind []) (sym none-kind)
       (record {
@@ -80,8 +82,9 @@ module _ (k : BookKind) (suite : Suite) (key : List ℕ) (number : ℕ) where
             };
         bytes = none-same;
         sealings = none-sealings;
+        units = refl;
       })
-  own-kind (u ∷ us) b = subst (OwnKind (u ∷ us)) (sym (units-kind u us)) (record { bookable = b; bytes = refl; sealings = refl })
+  own-kind (u ∷ us) b = subst (OwnKind (u ∷ us)) (sym (units-kind u us)) (record { bookable = b; bytes = refl; sealings = refl; units = refl })
 
 -- so every book is one of its own kind
 pub is-own : {key x : List ℕ} {n t : ℕ} (k : BookKind) → IsBook (kindOf k) key x n t → IsBook (kindOf (bookKind x)) key x n t

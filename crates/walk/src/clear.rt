@@ -4,7 +4,6 @@ use kinds::Kind;
 use parser::frame::Frame;
 use suites::refusal::Answer;
 use suites::refusal::Refusal;
-ghost use mathlib.Core.List.{[], _∷_};
 ghost use mathlib.Core.Path.{_≡_};
 ghost use Prim.Native.Nat.{_+_, _^_, _<_, min};
 ghost use lib.ListN.{length};
@@ -34,13 +33,14 @@ fn lesser(a: usize, b: usize) -> usize
     if a < b { a } else { b }
 }
 
-// A code of two letters.
-fn letters(a: u8, b: u8) -> Code
-    ensures { λ r. ⌜ r ≡ codeOf (a ∷ b ∷ []) ⌝ }
+// A code of a kind.
+fn letters(kind: Kind, c: [u8; 2]) -> Code
+    ensures { λ r. ⌜ r ≡ codeOf c ⌝ }
 {
+    let bytes = [c[0], c[1], 0, 0];
     Code {
-        bytes: [a, b, 0, 0],
-        len: 2,
+        bytes,
+        len: kind.code_bytes(),
     }
 }
 
@@ -72,10 +72,11 @@ fn unit_clear(kind: Kind, n: u64, at: usize, m: usize, s: &[u8]) -> Clear
     requires { ⌜ (frameAt (kindOf kind) n (now s) ≡ Frame.Unit m) × (at + length (now s) < 2 ^ 64) ⌝ }
     ensures { λ r. ⌜ r ≡ clearOf (kindOf kind) at (now (s .entry)) (Frame.Unit m) ⌝ }
 {
-    let a = kind.close_header_len();
-    let b = a + kind.code_bytes();
-    let from = letters(s[a], s[a + 1]);
-    let to = letters(s[b], s[b + 1]);
+    let c = parser::frame::codes(kind, s);
+    let one = c.from;
+    let two = c.to;
+    let from = letters(kind, one);
+    let to = letters(kind, two);
     let ciphertext = Part {
         at: at + kind.ciphertext_at(),
         len: m,
