@@ -1,4 +1,4 @@
--- Demand 3 holds: of each kind by the writer's half and the reader's, and check takes a book by its own kind.
+-- Demand 3 holds: of each kind by the writer's half and the checker's, and check takes a book by its own kind.
 use mathlib.Core.Path.{_≡_, refl, sym, ap, subst, _∙_}
 use mathlib.Core.Bool.{Bool, true}
 use mathlib.Core.List.{List, map}
@@ -20,10 +20,10 @@ use Rattle.writer.specs.History.{add, Callable, adds, closes, Start, started, h
 use Rattle.writer.specs.Left.{laidOut, sealedOf, Leaves as WriterLeaves, writing}
 use Rattle.writer.proofs.Left.{writer-half}
 use Rattle.writer.proofs.Passed.{start-passes}
-use Rattle.reader.specs.Check.{checkAnswer}
-use Rattle.reader.specs.Exact.{bookSealings, IsBook}
-use Rattle.reader.proofs.BookKinds.{is-own}
-use Rattle.reader.proofs.Exact.{reader-half}
+use Rattle.checker.specs.Check.{checkAnswer}
+use Rattle.checker.specs.Exact.{bookSealings, IsBook}
+use Rattle.checker.proofs.BookKinds.{is-own}
+use Rattle.checker.proofs.Exact.{checker-half}
 use Rattle.parser.proofs.Frames.{readable}
 use Rattle.book.specs.Demand3.{History, after, unitsAdded, leaves, LeavesBook, Demand3}
 
@@ -121,9 +121,9 @@ demand3 =
       exact = λ key x keyBytes bytes n t. (
         λ e.
             let k = bookKind x in
-            let (h, l, count, total) = is-left (kindOf k) (formed k) bytes (reader-half (kindOf k) (readable k) .accepted key x n t keyBytes bytes e) in
+            let (h, l, count, total) = is-left (kindOf k) (formed k) bytes (checker-half (kindOf k) (readable k) .accepted key x n t keyBytes bytes e) in
             (k, h, l, count, total),
-        λ (k, h, l, count, total). reader-half (kindOf (bookKind x)) (readable (bookKind x)) .accepts key x n t (is-own k (left-is (kindOf k) (formed k) h l count total)),
+        λ (k, h, l, count, total). checker-half (kindOf (bookKind x)) (readable (bookKind x)) .accepts key x n t (is-own k (left-is (kindOf k) (formed k) h l count total)),
       );
       one = λ k h₁ h₂ same e.
           let l₁ = left (kindOf k) (formed k) h₁ in

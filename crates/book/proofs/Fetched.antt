@@ -10,8 +10,8 @@ use Rattle.kinds.specs.Kind.{kindOf}
 use Rattle.kinds.proofs.Formed.{formed}
 use Rattle.fields.specs.Unit.{BookUnit}
 use Rattle.format.specs.Layout.{bookBytes, Bookable}
-use Rattle.reader.specs.Check.{checkAnswer}
-use Rattle.reader.specs.declared.check.CheckAnswer.the-variants.{Accepted}
+use Rattle.checker.specs.Check.{checkAnswer}
+use Rattle.checker.specs.declared.check.CheckAnswer.the-variants.{Accepted}
 use Rattle.fetch.specs.Exact.{HandsOut, NoUnit, ClosesAt, PartOf, placeBehind, StandsAt, SaysClear}
 use Rattle.fetch.proofs.Exact.{fetches-units}
 use Rattle.book.specs.Demand3.{History, after, unitsAdded, LeavesBook}

@@ -15,10 +15,10 @@ use Rattle.format.specs.Sealings.{cipherCalls, callTotal}
 use Rattle.fields.specs.Unit.{BookUnit}
 use Rattle.kinds.specs.declared.Kind.{Kind as BookKind}
 use Rattle.kinds.specs.Kind.{kindOf, newest}
-use Rattle.writer.specs.History.{Call, Callable, State, Start, started, run, units, hasClose, sealings}
+use Rattle.writer.specs.History.{Call, Callable, State, Start, started, afterCalls, units, hasClose, sealings}
 use Rattle.writer.specs.Left.{WriterHalf}
-use Rattle.reader.specs.Check.{checkAnswer}
-use Rattle.reader.specs.declared.check.CheckAnswer.the-variants.{Accepted}
+use Rattle.checker.specs.Check.{checkAnswer}
+use Rattle.checker.specs.declared.check.CheckAnswer.the-variants.{Accepted}
 
 -- "Take every list of add and close calls, refused ones included, from an accepted start. Each call gets the writer last handed back and the
 -- start's buffer as the last call left it, and nobody else writes that buffer meanwhile."
@@ -32,7 +32,7 @@ pub record History (kind : Kind) : Type 0 where
 module _ {kind : Kind} (h : History kind) where
   -- "after every such list": the writer and the buffer
   abbrev pub after : State
-  after = run kind (h .calls) (started (h .start))
+  after = afterCalls kind (h .calls) (started (h .start))
 
   -- "the units of a list are, in order, the language pair, source and target of each accepted add"
   abbrev pub unitsAdded : List BookUnit

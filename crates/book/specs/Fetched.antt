@@ -7,8 +7,8 @@ use lib.ListN.{length}
 use Rattle.bits.specs.Bytes.{Bytes}
 use Rattle.fields.specs.Kind.{Kind}
 use Rattle.fields.specs.Unit.{BookUnit}
-use Rattle.reader.specs.Check.{checkAnswer}
-use Rattle.reader.specs.declared.check.CheckAnswer.the-variants.{Accepted}
+use Rattle.checker.specs.Check.{checkAnswer}
+use Rattle.checker.specs.declared.check.CheckAnswer.the-variants.{Accepted}
 use Rattle.kinds.specs.declared.Kind.{Kind as BookKind}
 use Rattle.kinds.specs.Kind.{kindOf}
 use Rattle.fetch.specs.Exact.{HandsOut, NoUnit, ClosesAt, PartOf, placeBehind, StandsAt, SaysClear}

@@ -2,8 +2,8 @@
 use mathlib.Core.Path.{_≡_}
 use Prim.Native.Nat.{ℕ}
 use Rattle.suites.specs.Refusal.{number}
-use Rattle.reader.specs.declared.check.CheckAnswer.{CheckAnswer}
-use Rattle.reader.specs.declared.check.CheckAnswer.the-variants.{Accepted, Refused as CheckRefused}
+use Rattle.checker.specs.declared.check.CheckAnswer.{CheckAnswer}
+use Rattle.checker.specs.declared.check.CheckAnswer.the-variants.{Accepted, Refused as CheckRefused}
 use Rattle.fetch.specs.declared.unit.FetchAnswer.{FetchAnswer}
 use Rattle.fetch.specs.declared.unit.FetchAnswer.the-variants.{Fetched, Refused as FetchRefused}
 use Rattle.fetch.specs.declared.unit.PlacedAnswer.{PlacedAnswer}

@@ -1,9 +1,9 @@
 // The functions for C that read a book, as include/sealed_book.h declares them.
 use fetch::unit::FetchAnswer;
 use fetch::unit::PlacedAnswer;
-use reader::check::CheckAnswer;
+use checker::check::CheckAnswer;
 ghost use mathlib.Core.Path.{_≡_};
-ghost use Rattle.reader.specs.Check.{checkAnswer};
+ghost use Rattle.checker.specs.Check.{checkAnswer};
 ghost use Rattle.walk.specs.Ciphertext.{ciphertextPlace};
 ghost use Rattle.fetch.specs.Fetch.{fetchAnswer, fetchBuffer, placedAnswer, placedBuffer};
 ghost use Rattle.c_reader.specs.Read.{CheckLeaves, FetchLeaves, PlacedLeaves};
@@ -13,7 +13,7 @@ pub extern "C" fn sb_check(key: &[u8], book: &[u8], units: &mut u64, calls: &mut
     ensures { λ r. ⌜ CheckLeaves (checkAnswer (now (key .entry)) (now (book .entry)))
         (now (units .entry)) (now (calls .entry)) r (now (units .exit)) (now (calls .exit)) ⌝ }
 {
-    let answer = reader::check::check(key, book);
+    let answer = checker::check::check(key, book);
     match answer {
         CheckAnswer::Refused(why) => why.number(),
         CheckAnswer::Accepted(count, total) => {

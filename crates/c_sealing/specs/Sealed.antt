@@ -3,8 +3,8 @@ use Prim.Native.Nat.{ℕ}
 use Rattle.suites.specs.Refusal.{number}
 use Rattle.sealing.specs.declared.seal.SealAnswer.{SealAnswer}
 use Rattle.sealing.specs.declared.seal.SealAnswer.the-variants.{Sealed, Refused as SealRefused}
-use Rattle.tae.specs.declared.open.OpenAnswer.{OpenAnswer}
-use Rattle.tae.specs.declared.open.OpenAnswer.the-variants.{Opened, Refused as OpenRefused}
+use Rattle.opening.specs.declared.open.OpenAnswer.{OpenAnswer}
+use Rattle.opening.specs.declared.open.OpenAnswer.the-variants.{Opened, Refused as OpenRefused}
 
 abbrev pub sealReturned : SealAnswer → ℕ
 sealReturned (Sealed len count) = 0

@@ -1,9 +1,9 @@
 // The functions for C that seal and open, as include/sealed_book.h declares them.
 use sealing::seal::SealAnswer;
 use suites::suite::Suite;
-use tae::open::OpenAnswer;
+use opening::open::OpenAnswer;
 ghost use mathlib.Core.Path.{_≡_};
-ghost use Rattle.tae.specs.Open.{openAnswer, openBuffer};
+ghost use Rattle.opening.specs.Open.{openAnswer, openBuffer};
 ghost use Rattle.sealing.specs.Seal.{sealAnswer, sealBuffer};
 ghost use Rattle.c_sealing.specs.Sealed.{sealReturned, sealLength, sealCalls, openReturned, openLength};
 
@@ -45,7 +45,7 @@ pub extern "C" fn sb_open(
 ) -> u32
     ensures { λ r. ⌜ (r ≡ openReturned (openAnswer cipher steps (now (key .entry)) (now (nonce .entry)) (now (header .entry)) (now (sealed .entry)) (now (out .entry)))) × (now (out .exit) ≡ openBuffer cipher steps (now (key .entry)) (now (nonce .entry)) (now (header .entry)) (now (sealed .entry)) (now (out .entry))) × (now (len .exit) ≡ openLength (openAnswer cipher steps (now (key .entry)) (now (nonce .entry)) (now (header .entry)) (now (sealed .entry)) (now (out .entry))) (now (len .entry))) ⌝ }
 {
-    let answer = tae::open::open(Suite { cipher, steps }, key, nonce, header, sealed, out);
+    let answer = opening::open::open(Suite { cipher, steps }, key, nonce, header, sealed, out);
     match answer {
         OpenAnswer::Refused(why) => why.number(),
         OpenAnswer::Opened(m) => {

@@ -6,9 +6,9 @@ use mathlib.Core.List.{List}
 use Prim.Native.Nat.{ℕ, _+_}
 use lib.Dec.{leb}
 use lib.ListN.{length, take, drop}
-use Rattle.reader.specs.Check.{checkAnswer}
-use Rattle.reader.specs.declared.check.CheckAnswer.{CheckAnswer}
-use Rattle.reader.specs.declared.check.CheckAnswer.the-variants.{Accepted, Refused}
+use Rattle.checker.specs.Check.{checkAnswer}
+use Rattle.checker.specs.declared.check.CheckAnswer.{CheckAnswer}
+use Rattle.checker.specs.declared.check.CheckAnswer.the-variants.{Accepted, Refused}
 use Rattle.check_book.specs.declared.Line.{Line}
 use Rattle.check_book.specs.declared.Line.the-variants.{Accepted as LineAccepted, Refused as LineRefused, TooLong}
 

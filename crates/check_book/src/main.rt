@@ -1,6 +1,6 @@
 // Checks the book at standard input, behind the 16 bytes of its key, and writes one line: `ok units=1 calls=7`, `refused 8`, or `too long`.
 use libc::STDIN_FILENO;
-use reader::check::CheckAnswer;
+use checker::check::CheckAnswer;
 use suites::refusal::Refusal;
 ghost use mathlib.Core.Path.{_≡_};
 ghost use Rattle.check_book.specs.Line.{checkedLine, lineOf};
@@ -34,7 +34,7 @@ fn told(input: &[u8]) -> Line
     }
     let key = &input[0..16];
     let book = &input[16..];
-    checked(reader::check::check(key, book))
+    checked(checker::check::check(key, book))
 }
 
 fn write(line: Line) {

@@ -30,7 +30,7 @@ use Rattle.parser.proofs.Openings.{opening-here, front-here}
 use Rattle.fetch.specs.declared.unit.FetchAnswer.the-variants.{Fetched, Refused as FetchRefused}
 use Rattle.walk.specs.Walk.{walkTo}
 use Rattle.walk.specs.Clear.{clearOf, clearUnless, placedClearOf, unitClearOf}
-use Rattle.fetch.specs.Fetch.{andThen, handedOut, roomTest, outcomeAt, textAt, fetchOutcome, fetchText, fetchReport, placedOutcome, fetchAnswerOf, fetchAnswer, fetchBufferOf, fetchBuffer}
+use Rattle.fetch.specs.Fetch.{andThen, handedOut, roomTest, outcomeHere, textAt, fetchOutcome, fetchText, fetchReport, placedOutcome, fetchAnswerOf, fetchAnswer, fetchBufferOf, fetchBuffer}
 use Rattle.fetch.specs.Exact.{HandsOut}
 use Rattle.fetch.proofs.Reached.{endPlace}
 
@@ -46,15 +46,15 @@ module _ (kind : Kind) (suite : Suite) (key : List ℕ) (number : ℕ) (few : nu
   there : drop (length units) (units ++ z) ≡ z
   there = drop-at units z (length units) refl
 
-  pub outcome-there : length key ≡ 16 → (r : ℕ) → fetchOutcome kind key x k r ≡ outcomeAt kind key (openingFields suite number) (length us) z r
+  pub outcome-there : length key ≡ 16 → (r : ℕ) → fetchOutcome kind key x k r ≡ outcomeHere kind key (openingFields suite number) (length us) z r
   unfolding fetchOutcome checkTests
   outcome-there long r =
       let h = opening-here suite number (units ++ z) few allowed in
       let front = front-here suite number (units ++ z) in
       let tests : checkTests (length key) x ≡ Done = unless-passes (eqb (length key) 16) KeyLength (openingTests x) (eq-eqb (length key) 16 long) (h .0) in
-      (λ i. andThen (tests i) (outcomeAt kind key (front i) (walkTo kind k (h .3 i) .number) (drop (walkTo kind k (h .3 i) .at) (h .3 i)) r))
-      ∙ (λ i. outcomeAt kind key (openingFields suite number) (ends i .number) (drop (ends i .at) (units ++ z)) r)
-      ∙ ap (λ (y : List ℕ). outcomeAt kind key (openingFields suite number) (length us) y r) there
+      (λ i. andThen (tests i) (outcomeHere kind key (front i) (walkTo kind k (h .3 i) .number) (drop (walkTo kind k (h .3 i) .at) (h .3 i)) r))
+      ∙ (λ i. outcomeHere kind key (openingFields suite number) (ends i .number) (drop (ends i .at) (units ++ z)) r)
+      ∙ ap (λ (y : List ℕ). outcomeHere kind key (openingFields suite number) (length us) y r) there
 
   pub text-there : fetchText kind key x k ≡ textAt kind key (openingFields suite number) (length us) z
   unfolding fetchText
@@ -72,13 +72,13 @@ module _ (kind : Kind) (suite : Suite) (key : List ℕ) (number : ℕ) (few : nu
       ∙ there
 
   -- read at that place, whatever the number
-  pub placed-there : length key ≡ 16 → (n r : ℕ) → placedOutcome kind key x n (16 + length units) r ≡ outcomeAt kind key (openingFields suite number) n z r
+  pub placed-there : length key ≡ 16 → (n r : ℕ) → placedOutcome kind key x n (16 + length units) r ≡ outcomeHere kind key (openingFields suite number) n z r
   unfolding placedOutcome checkTests
   placed-there long n r =
       let h = opening-here suite number (units ++ z) few allowed in
       let front = front-here suite number (units ++ z) in
       let tests : checkTests (length key) x ≡ Done = unless-passes (eqb (length key) 16) KeyLength (openingTests x) (eq-eqb (length key) 16 long) (h .0) in
-      λ i. andThen (tests i) (outcomeAt kind key (front i) n (there-whole i) r)
+      λ i. andThen (tests i) (outcomeHere kind key (front i) n (there-whole i) r)
 
   pub placed-clear-there : (n : ℕ) → placedClearOf kind n (16 + length units) x ≡ clearOf kind (16 + length units) z (frameAt kind n z)
   unfolding placedClearOf

@@ -26,7 +26,7 @@ use Rattle.parser.specs.declared.frame.Frame.the-variants.{Unit, Close}
 use Rattle.parser.specs.Frame.{mostUnits, frameAt}
 use Rattle.parser.proofs.Frames.{readable}
 use Rattle.parser.proofs.Openings.{opening-here}
-use Rattle.reader.proofs.BookKinds.{own-kind, unit-kind}
+use Rattle.checker.proofs.BookKinds.{own-kind, unit-kind}
 use Rattle.walk.specs.declared.clear.Clear.{Clear}
 use Rattle.walk.specs.declared.ciphertext.Part.{Part}
 use Rattle.walk.specs.Walk.{walkTo}

@@ -34,10 +34,10 @@ use Rattle.fetch.specs.Fetch.{
   roomTest,
   textOutcome,
   unitOutcome,
-  closeOutcome,
+  closeMet,
   frameOutcome,
   frameText,
-  outcomeAt,
+  outcomeHere,
   textAt,
   outcomeFrom,
   textFrom,
@@ -117,13 +117,13 @@ hands-next a t out p next h e f = (e ∙ (λ i. withNext (h .0 i) (f i)) ∙ rep
 module _ (kind : Kind) (key o : List ℕ) (n at : ℕ) (s out : List ℕ) {r : PlacedAnswer} {left : List ℕ} where
   pub frame-hands : (f : Frame) → frameAt kind n s ≡ f
       → HandsNext
-      (frameOutcome f (λ (m : ℕ). unitOutcome kind key o n m s (length out)) (closeOutcome kind key o n s))
+      (frameOutcome f (λ (m : ℕ). unitOutcome kind key o n m s (length out)) (closeMet kind key o n s))
       (frameText f (λ (m : ℕ). unitOpened kind key o n m s)) (nextOf kind at f) out r left
-      → HandsNext (outcomeAt kind key o n s (length out)) (textAt kind key o n s) (nextOf kind at (frameAt kind n s)) out r left
-  unfolding outcomeAt textAt
+      → HandsNext (outcomeHere kind key o n s (length out)) (textAt kind key o n s) (nextOf kind at (frameAt kind n s)) out r left
+  unfolding outcomeHere textAt
   frame-hands f e h =
       next-same out
-      (ap (λ g. frameOutcome g (λ (m : ℕ). unitOutcome kind key o n m s (length out)) (closeOutcome kind key o n s)) (sym e))
+      (ap (λ g. frameOutcome g (λ (m : ℕ). unitOutcome kind key o n m s (length out)) (closeMet kind key o n s)) (sym e))
       (ap (λ g. frameText g (λ (m : ℕ). unitOpened kind key o n m s)) (sym e))
       (ap (nextOf kind at) (sym e))
       h
@@ -131,12 +131,12 @@ module _ (kind : Kind) (key o : List ℕ) (n at : ℕ) (s out : List ℕ) {r : P
 -- by the tests before the frame
 module _ (kind : Kind) (key s : List ℕ) (n at : ℕ) (out : List ℕ) {r : PlacedAnswer} {left : List ℕ} where
   pub tests-hand : (a : Answer) → checkTests (length key) s ≡ a
-      → HandsNext (andThen a (outcomeAt kind key (openingBytes s) n (drop at s) (length out)))
+      → HandsNext (andThen a (outcomeHere kind key (openingBytes s) n (drop at s) (length out)))
       (textAt kind key (openingBytes s) n (drop at s)) (nextOf kind at (frameAt kind n (drop at s))) out r left
       → (r ≡ placedAnswerOf kind key s n at out) × (left ≡ placedBufferOf kind key s n at out)
   unfolding placedAnswerOf placedBufferOf placedOutcome placedText
   tests-hand a e h =
-      next-same out (ap (λ b. andThen b (outcomeAt kind key (openingBytes s) n (drop at s) (length out))) (sym e)) refl refl h
+      next-same out (ap (λ b. andThen b (outcomeHere kind key (openingBytes s) n (drop at s) (length out))) (sym e)) refl refl h
 
 -- what follows tests matters only where they are done
 report-after : (a x y : Answer) (t u : List ℕ) (next : ℕ) → (a ≡ Done → (x ≡ y) × (t ≡ u))
@@ -172,11 +172,11 @@ module _ (kind : Kind) (key s : List ℕ) (k : ℕ) (out : List ℕ) where
   there done = sym (drop-drop (endsAt .at) from s) ∙ (λ i. drop (walkTo kind k (behind done i) .at) (behind done i))
 
   same : checkTests (length key) s ≡ Done
-      → (outcomeAt kind key (openingBytes s) (endsAt .number) (drop (from + endsAt .at) s) (length out)
+      → (outcomeHere kind key (openingBytes s) (endsAt .number) (drop (from + endsAt .at) s) (length out)
       ≡ outcomeFrom kind key (walkTo kind k (afterOpening s)) s (length out))
       × (textAt kind key (openingBytes s) (endsAt .number) (drop (from + endsAt .at) s) ≡ textFrom kind key (walkTo kind k (afterOpening s)) s)
   same done = (
-    λ i. outcomeAt kind key (openingBytes s) (walkTo kind k (behind done i) .number) (there done i) (length out),
+    λ i. outcomeHere kind key (openingBytes s) (walkTo kind k (behind done i) .number) (there done i) (length out),
     λ i. textAt kind key (openingBytes s) (walkTo kind k (behind done i) .number) (there done i),
   )
 

@@ -12,10 +12,10 @@ use Rattle.suites.specs.declared.refusal.Refusal.{Refusal}
 use Rattle.suites.specs.declared.refusal.Refusal.the-variants.{TagDiffers, SegmentLength}
 use Rattle.limits.specs.Tests.{unless}
 use Rattle.limits.proofs.Passed.{unless-passed}
-use Rattle.tae.specs.Open.{agrees}
-use Rattle.opening.specs.Verify.{verifyOutcome, verifyReport, verifyAnswer}
-use Rattle.opening.specs.Within.{heldIn, withinBuffer}
-use Rattle.opening.proofs.Answers.{verify-outcome, within-buffer}
+use Rattle.opening.specs.Open.{agrees}
+use Rattle.verifying.specs.Verify.{verifyOutcome, verifyReport, verifyAnswer}
+use Rattle.verifying.specs.Within.{heldIn, withinBuffer}
+use Rattle.verifying.proofs.Answers.{verify-outcome, within-buffer}
 use Rattle.fields.specs.Unit.{sourceLength, textInRange}
 use Rattle.kinds.specs.declared.Kind.{Kind as BookKind}
 use Rattle.kinds.specs.Kind.{kindOf}

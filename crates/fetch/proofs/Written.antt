@@ -18,18 +18,18 @@ use Rattle.parser.specs.Frame.{mostUnits, frameFrom, frameTo, frameAt}
 use Rattle.parser.specs.Opening.{openingNumber, openingSuite}
 use Rattle.parser.proofs.Openings.{front-says}
 use Rattle.seals.specs.Seal.{unitOpened, unitSealTests, closeSealTests}
-use Rattle.reader.specs.Check.{checkedAt}
-use Rattle.reader.proofs.Sealed.{unit-sealed, close-sealed}
-use Rattle.reader.proofs.Units.{unit-written, unit-opened, unit-codes as unit-codes-read}
-use Rattle.reader.proofs.Closes.{close-written}
-use Rattle.fetch.specs.Fetch.{andThen, roomTest, unitOutcome, closeOutcome, frameOutcome, frameText, outcomeAt, textAt}
+use Rattle.checker.specs.Check.{checkedAt}
+use Rattle.checker.proofs.Sealed.{unit-sealed, close-sealed}
+use Rattle.checker.proofs.Units.{unit-written, unit-opened, unit-codes as unit-codes-read}
+use Rattle.checker.proofs.Closes.{close-written}
+use Rattle.fetch.specs.Fetch.{andThen, roomTest, unitOutcome, closeMet, frameOutcome, frameText, outcomeHere, textAt}
 
 -- by the frame that stands there
 module _ (kind : Kind) (key o : List ℕ) (n : ℕ) (s : List ℕ) where
   outcome-by : (f : Frame) (r : ℕ) → frameAt kind n s ≡ f
-      → outcomeAt kind key o n s r ≡ frameOutcome f (λ (m : ℕ). unitOutcome kind key o n m s r) (closeOutcome kind key o n s)
-  unfolding outcomeAt
-  outcome-by f r e = λ i. frameOutcome (e i) (λ (m : ℕ). unitOutcome kind key o n m s r) (closeOutcome kind key o n s)
+      → outcomeHere kind key o n s r ≡ frameOutcome f (λ (m : ℕ). unitOutcome kind key o n m s r) (closeMet kind key o n s)
+  unfolding outcomeHere
+  outcome-by f r e = λ i. frameOutcome (e i) (λ (m : ℕ). unitOutcome kind key o n m s r) (closeMet kind key o n s)
 
   text-by : (f : Frame) → frameAt kind n s ≡ f → textAt kind key o n s ≡ frameText f (λ (m : ℕ). unitOpened kind key o n m s)
   unfolding textAt
@@ -70,7 +70,7 @@ module _ (kind : Kind) (suite : Suite) (key : List ℕ) (number : ℕ) (fit : nu
     pub unit-frame : frameAt kind n s ≡ Unit (length t)
     unit-frame = unit-both .0
 
-    pub unit-outcome : (r : ℕ) → outcomeAt kind key o n s r ≡ roomTest t r
+    pub unit-outcome : (r : ℕ) → outcomeHere kind key o n s r ≡ roomTest t r
     unfolding unitOutcome
     unit-outcome r = outcome-by kind key o n s (Unit (length t)) r unit-frame ∙ (λ i. andThen (unit-both .1 i) (roomTest (opened i) r))
 
@@ -95,6 +95,6 @@ module _ (kind : Kind) (suite : Suite) (key : List ℕ) (number : ℕ) (fit : nu
   pub close-frame : frameAt kind n c ≡ Close
   close-frame = close-both .0
 
-  pub close-outcome : (r : ℕ) → outcomeAt kind key o n c r ≡ Refused NoSuchUnit
-  unfolding closeOutcome
+  pub close-outcome : (r : ℕ) → outcomeHere kind key o n c r ≡ Refused NoSuchUnit
+  unfolding closeMet
   close-outcome r = outcome-by kind key o n c Close r close-frame ∙ ap (λ (a : Answer). andThen a (Refused NoSuchUnit)) (close-both .1)

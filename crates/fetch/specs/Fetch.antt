@@ -49,8 +49,8 @@ unfoldable pub unitOutcome : Kind → List ℕ → List ℕ → ℕ → ℕ → 
 unitOutcome kind key o n m s r = andThen (unitSealTests kind key o n m s) (roomTest (unitOpened kind key o n m s) r)
 
 -- "Meeting the close it verifies it and the end of the book, then says 16."
-unfoldable pub closeOutcome : Kind → List ℕ → List ℕ → ℕ → List ℕ → Answer
-closeOutcome kind key o n s = andThen (closeSealTests kind key o n s) (Refused NoSuchUnit)
+unfoldable pub closeMet : Kind → List ℕ → List ℕ → ℕ → List ℕ → Answer
+closeMet kind key o n s = andThen (closeSealTests kind key o n s) (Refused NoSuchUnit)
 
 -- by the frame where the walk ends
 abbrev pub frameOutcome : Frame → (ℕ → Answer) → Answer → Answer
@@ -64,15 +64,15 @@ frameText Close text = []
 frameText (FrameRefused why) text = []
 
 -- where the walk ends with the number n before the bytes s: the outcome, and the text of the unit that stands there
-unfoldable pub outcomeAt : Kind → List ℕ → List ℕ → ℕ → List ℕ → ℕ → Answer
-outcomeAt kind key o n s r = frameOutcome (frameAt kind n s) (λ (m : ℕ). unitOutcome kind key o n m s r) (closeOutcome kind key o n s)
+unfoldable pub outcomeHere : Kind → List ℕ → List ℕ → ℕ → List ℕ → ℕ → Answer
+outcomeHere kind key o n s r = frameOutcome (frameAt kind n s) (λ (m : ℕ). unitOutcome kind key o n m s r) (closeMet kind key o n s)
 
 unfoldable pub textAt : Kind → List ℕ → List ℕ → ℕ → List ℕ → List ℕ
 textAt kind key o n s = frameText (frameAt kind n s) (λ (m : ℕ). unitOpened kind key o n m s)
 
 -- the same at a place behind the opening fields of the book s
 abbrev pub outcomeFrom : Kind → List ℕ → Place → List ℕ → ℕ → Answer
-outcomeFrom kind key p s r = outcomeAt kind key (openingBytes s) (p .number) (drop (p .at) (afterOpening s)) r
+outcomeFrom kind key p s r = outcomeHere kind key (openingBytes s) (p .number) (drop (p .at) (afterOpening s)) r
 
 abbrev pub textFrom : Kind → List ℕ → Place → List ℕ → List ℕ
 textFrom kind key p s = textAt kind key (openingBytes s) (p .number) (drop (p .at) (afterOpening s))
@@ -105,7 +105,7 @@ fetchBuffer key s k out = fetchBufferOf (kindOf (bookKind s)) key s k out
 -- Besides the scope, for a caller that goes from one unit to the next: unit n, where its header stands at byte `at` of the book s. That of unit
 -- 0 stands behind the opening fields. The refusals are those of fetch, without those of the walk.
 unfoldable pub placedOutcome : Kind → List ℕ → List ℕ → ℕ → ℕ → ℕ → Answer
-placedOutcome kind key s n at r = andThen (checkTests (length key) s) (outcomeAt kind key (openingBytes s) n (drop at s) r)
+placedOutcome kind key s n at r = andThen (checkTests (length key) s) (outcomeHere kind key (openingBytes s) n (drop at s) r)
 
 unfoldable pub placedText : Kind → List ℕ → List ℕ → ℕ → ℕ → List ℕ
 placedText kind key s n at = textAt kind key (openingBytes s) n (drop at s)

@@ -13,7 +13,7 @@ ghost use Rattle.kinds.specs.Kind.{kindOf};
 ghost use Rattle.parser.specs.Frame.{frameAt};
 ghost use Rattle.seals.specs.Parts.{Under};
 ghost use Rattle.seals.specs.Seal.{unitOpened};
-ghost use Rattle.fetch.specs.Fetch.{andThen, textOutcome, unitOutcome, outcomeAt, textAt, fetchAnswer, fetchBuffer, nextOf, placedReport, placedAnswer, placedBuffer};
+ghost use Rattle.fetch.specs.Fetch.{andThen, textOutcome, unitOutcome, outcomeHere, textAt, fetchAnswer, fetchBuffer, nextOf, placedReport, placedAnswer, placedBuffer};
 ghost use Rattle.fetch.specs.Hands.{Hands, HandsNext, withNext, withoutNext};
 
 // The lengths of source and target, or the refusal.
@@ -73,7 +73,7 @@ fn unit(
     let end = p.end;
     let tag = p.tag;
     let mut text = [0u8; 8208];
-    let answer = opening::within::open_within(
+    let answer = verifying::within::open_within(
         suite,
         key,
         &nonce,
@@ -130,7 +130,7 @@ fn fetch_frame(
 ) -> PlacedAnswer
     requires { ⌜ Under (now key) (now front) × (at + length (now s) < 2 ^ 64) ⌝ }
     ensures { λ r. ⌜ HandsNext
-        (outcomeAt (kindOf kind) (now (key .entry)) (now (front .entry)) n (now (s .entry)) (length (now (out .entry))))
+        (outcomeHere (kindOf kind) (now (key .entry)) (now (front .entry)) n (now (s .entry)) (length (now (out .entry))))
         (textAt (kindOf kind) (now (key .entry)) (now (front .entry)) n (now (s .entry)))
         (nextOf (kindOf kind) at (frameAt (kindOf kind) n (now (s .entry))))
         (now (out .entry)) r (now (out .exit)) ⌝ }

@@ -79,6 +79,6 @@ known =
     []
 
 -- each value of a list is computed as it is stated
-abbrev pub Holds : List Value → Type 0
-Holds [] = Unit {0}
-Holds (v ∷ l) = (v .computed ≡ v .stated) × Holds l
+abbrev pub KnownHold : List Value → Type 0
+KnownHold [] = Unit {0}
+KnownHold (v ∷ l) = (v .computed ≡ v .stated) × KnownHold l

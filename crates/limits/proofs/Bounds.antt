@@ -9,11 +9,11 @@ use lib.Dec.{leb}
 use lib.Pow.{pow-mono}
 
 -- under 14 bytes of nonce, and over 16: k is 130 for the header and 131 for the text
-pub few : (k n : ℕ) → 128 ≤ k → n < 14 → 2 ^ 24 ≡ min (2 ^ (k - 8 * n)) (2 ^ 24)
-few k n h l = sym (min-eq-right (pow-mono {i = 24} {j = k - 8 * n} (omega arith)))
+pub short-nonce : (k n : ℕ) → 128 ≤ k → n < 14 → 2 ^ 24 ≡ min (2 ^ (k - 8 * n)) (2 ^ 24)
+short-nonce k n h l = sym (min-eq-right (pow-mono {i = 24} {j = k - 8 * n} (omega arith)))
 
-pub many : (k n : ℕ) → k ≤ 136 → 17 ≤ n → 1 ≡ min (2 ^ (k - 8 * n)) (2 ^ 24)
-many k n h l = let z : 0 ≡ k - 8 * n = omega arith in ap (λ e. min (2 ^ e) (2 ^ 24)) z
+pub long-nonce : (k n : ℕ) → k ≤ 136 → 17 ≤ n → 1 ≡ min (2 ^ (k - 8 * n)) (2 ^ 24)
+long-nonce k n h l = let z : 0 ≡ k - 8 * n = omega arith in ap (λ e. min (2 ^ e) (2 ^ 24)) z
 
 -- the tag taken from the output, or added to the text
 pub tag-room : (m o : ℕ) → 16 ≤ o → leb m (o - 16) ≡ leb (m + 16) o

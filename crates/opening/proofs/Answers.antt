@@ -1,47 +1,67 @@
--- The answers of `verify` and `open_within`, by what their tests say.
+-- The answers of `open`, by what its tests say.
 use mathlib.Core.Path.{_≡_, sym, ap}
+use mathlib.Core.Bool.{true}
 use mathlib.Core.List.{List}
-use Prim.Native.Nat.{ℕ}
+use Prim.Native.Nat.{ℕ, _-_, _≤_}
+use native.Mathlib.Nat.{le-trans}
+use native.Mathlib.Omega.{arith}
 use lib.ListN.{length}
+use lib.Seq.{length-take-le}
+use Rattle.suites.specs.Suite.{listed}
 use Rattle.suites.specs.declared.refusal.Answer.{Answer}
 use Rattle.suites.specs.declared.refusal.Answer.the-variants.{Done, Refused}
 use Rattle.suites.specs.declared.refusal.Refusal.{Refusal}
 use Rattle.suites.specs.declared.suite.Suite.{Suite}
-use Rattle.limits.specs.Tests.{verifyTests}
-use Rattle.limits.proofs.Passed.{verify-passed}
-use Rattle.tae.specs.Open.{opened, agrees, thenTag}
-use Rattle.tae.proofs.Answers.{Ready, ready}
-use Rattle.opening.specs.Verify.{verifyOutcome, verifyReport, verifyAnswer}
-use Rattle.opening.specs.Within.{heldIn, withinBuffer}
-use Rattle.opening.specs.declared.verify.VerifyAnswer.the-variants.{Refused as VerifyRefused}
+use Rattle.limits.specs.Limits.{headerLimit, textLimit}
+use Rattle.limits.specs.Tests.{openTests}
+use Rattle.limits.proofs.Passed.{open-passed, header-limit-most, text-limit-most}
+use Rattle.text_blocks.specs.Text.{Usable}
+use Rattle.opening.specs.Open.{ciphertext, opened, agrees, thenTag, openOutcome, openReport, openAnswer, openBuffer}
+use Rattle.sealing.specs.Passes.{Passable}
+use Rattle.sealing.specs.Seal.{written}
+use Rattle.opening.specs.declared.open.OpenAnswer.the-variants.{Refused as OpenRefused}
 
-module _ (s : Suite) (key nonce h x : List ℕ) where
-  -- the outcome and the answer, by what the tests say
-  pub verify-outcome : (a : Answer) → verifyTests (s .cipher) (s .steps) (length key) (length nonce) (length h) (length x) ≡ a
-      → thenTag a (agrees (s .cipher) (s .steps) key nonce h x) ≡ verifyOutcome (s .cipher) (s .steps) key nonce h x
-  unfolding verifyOutcome
-  verify-outcome a e = sym (ap (λ (a : Answer). thenTag a (agrees (s .cipher) (s .steps) key nonce h x)) e)
+-- what the tests leave true of key, nonce, header and sealed bytes
+pub record Ready (s : Suite) (key nonce h x : List ℕ) : Type 0 where
+  pub whole : length key ≡ 16
+  pub header : Passable s nonce h
+  pub text : Passable s nonce (ciphertext x)
+  pub long : 16 ≤ length x
 
-  verify-answer : (a : Answer) → verifyTests (s .cipher) (s .steps) (length key) (length nonce) (length h) (length x) ≡ a
-      → verifyReport (thenTag a (agrees (s .cipher) (s .steps) key nonce h x)) (opened (s .cipher) (s .steps) key nonce h x) ≡ verifyAnswer (s .cipher) (s .steps) key nonce h x
-  unfolding verifyAnswer
-  verify-answer a e = ap (λ (o : Answer). verifyReport o (opened (s .cipher) (s .steps) key nonce h x)) (verify-outcome a e)
+pub ready : (s : Suite) (key nonce h x : List ℕ) → listed (s .cipher) (s .steps) ≡ true → length key ≡ 16 → length nonce ≤ 15 → length h ≤ headerLimit (length nonce)
+    → 16 ≤ length x → length x - 16 ≤ textLimit (length nonce) → Ready s key nonce h x
+ready s key nonce h x suite whole short header long text =
+    let u : Usable s nonce = record { suite = suite; short = short } in
+    let m : length (ciphertext x) ≡ length x - 16 = length-take-le (length x - 16) x (omega arith) in
+    record {
+      whole = whole;
+      header = record { usable = u; small = le-trans header (header-limit-most (length nonce)) };
+      text = record { usable = u; small = rw m (le-trans text (text-limit-most (length nonce))) };
+      long = long;
+    }
 
-  pub verify-refused : (why : Refusal) → verifyTests (s .cipher) (s .steps) (length key) (length nonce) (length h) (length x) ≡ Refused why
-      → VerifyRefused why ≡ verifyAnswer (s .cipher) (s .steps) key nonce h x
-  verify-refused why e = verify-answer (Refused why) e
+module _ (s : Suite) (key nonce h x out : List ℕ) where
+  pub open-refused : (why : Refusal) → openTests (s .cipher) (s .steps) (length key) (length nonce) (length h) (length x) (length out) ≡ Refused why
+      → (OpenRefused why ≡ openAnswer (s .cipher) (s .steps) key nonce h x out) × (out ≡ openBuffer (s .cipher) (s .steps) key nonce h x out)
+  unfolding openOutcome openAnswer openBuffer
+  open-refused why e = (
+    sym (ap (λ (a : Answer). openReport (thenTag a (agrees (s .cipher) (s .steps) key nonce h x)) (length x - 16)) e),
+    sym (ap (λ (a : Answer). written (thenTag a (agrees (s .cipher) (s .steps) key nonce h x)) (opened (s .cipher) (s .steps) key nonce h x) out) e),
+  )
 
-  -- what is left in a working buffer
-  pub within-buffer : (work : List ℕ) (a : Answer) → verifyTests (s .cipher) (s .steps) (length key) (length nonce) (length h) (length x) ≡ a
-      → heldIn a (opened (s .cipher) (s .steps) key nonce h x) work ≡ withinBuffer (s .cipher) (s .steps) key nonce h x work
-  unfolding withinBuffer
-  within-buffer work a e = sym (ap (λ (a : Answer). heldIn a (opened (s .cipher) (s .steps) key nonce h x) work) e)
-
-  module _ (e : verifyTests (s .cipher) (s .steps) (length key) (length nonce) (length h) (length x) ≡ Done) where
-    pub verify-ready : Ready s key nonce h x
-    verify-ready =
-        let p = verify-passed (s .cipher) (s .steps) (length key) (length nonce) (length h) (length x) e in
+  module _ (e : openTests (s .cipher) (s .steps) (length key) (length nonce) (length h) (length x) (length out) ≡ Done) where
+    pub open-ready : Ready s key nonce h x
+    open-ready =
+        let p = open-passed (s .cipher) (s .steps) (length key) (length nonce) (length h) (length x) (length out) e in
         ready s key nonce h x (p .suite) (p .key) (p .short) (p .header) (p .long) (p .text)
 
-    pub verify-done : verifyReport (thenTag Done (agrees (s .cipher) (s .steps) key nonce h x)) (opened (s .cipher) (s .steps) key nonce h x) ≡ verifyAnswer (s .cipher) (s .steps) key nonce h x
-    verify-done = verify-answer Done e
+    pub open-room : length x - 16 ≤ length out
+    open-room = open-passed (s .cipher) (s .steps) (length key) (length nonce) (length h) (length x) (length out) e .room
+
+    pub open-done : (openReport (thenTag Done (agrees (s .cipher) (s .steps) key nonce h x)) (length x - 16) ≡ openAnswer (s .cipher) (s .steps) key nonce h x out)
+        × (written (thenTag Done (agrees (s .cipher) (s .steps) key nonce h x)) (opened (s .cipher) (s .steps) key nonce h x) out ≡ openBuffer (s .cipher) (s .steps) key nonce h x out)
+    unfolding openOutcome openAnswer openBuffer
+    open-done = (
+      sym (ap (λ (a : Answer). openReport (thenTag a (agrees (s .cipher) (s .steps) key nonce h x)) (length x - 16)) e),
+      sym (ap (λ (a : Answer). written (thenTag a (agrees (s .cipher) (s .steps) key nonce h x)) (opened (s .cipher) (s .steps) key nonce h x) out) e),
+    )

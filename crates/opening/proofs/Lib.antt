@@ -1,3 +1,3 @@
-pub mod Windows
-pub mod Apart
 pub mod Answers
+pub mod Demand2
+pub mod Opened

@@ -1,2 +1,2 @@
-pub mod Verify
-pub mod Within
+pub mod Open
+pub mod Demand2

@@ -1,3 +1,2 @@
-// Opening without an output, and into a working buffer.
-pub mod verify;
-pub mod within;
+// Opening what was sealed, and demand 2.
+pub mod open;

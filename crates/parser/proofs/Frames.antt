@@ -55,13 +55,13 @@ unitFrame kind n d m x rest = unitHeader kind n d ++ (sealedFields m x ++ rest)
 
 -- fields 11 and 12, of a ciphertext's length, sealed bytes, and what follows
 
-abbrev sealedOf : ℕ → List ℕ → List ℕ
-sealedOf m r = fieldValue m r ++ fieldValue 16 (afterField m r)
+abbrev fieldsJoined : ℕ → List ℕ → List ℕ
+fieldsJoined m r = fieldValue m r ++ fieldValue 16 (afterField m r)
 
 module _ (m : ℕ) (x rest : List ℕ) (least : 3 ≤ m) (most : m ≤ 8194) (long : length x ≡ m + 16) where
   sealed-here : (hasSealed (sealedFields m x ++ rest) ≡ true)
       × (fieldLength (sealedFields m x ++ rest) ≡ m)
-      × (sealedOf m (sealedFields m x ++ rest) ≡ x)
+      × (fieldsJoined m (sealedFields m x ++ rest) ≡ x)
       × (afterField 16 (afterField m (sealedFields m x ++ rest)) ≡ rest)
   unfolding hasSealed sealedFields
   sealed-here =
@@ -95,7 +95,7 @@ module _ (r : List ℕ) (has : hasSealed r ≡ true) where
       let both = and-eq-true-iff (hasField 0x11 m r) (hasField 0x12 16 (afterField m r)) .0 (all .1) in
       (leb-true 3 m (range .0), leb-true m 8194 (range .1), both .0, both .1)
 
-  sealed-long : length (sealedOf (fieldLength r) r) ≡ fieldLength r + 16
+  sealed-long : length (fieldsJoined (fieldLength r) r) ≡ fieldLength r + 16
   sealed-long =
       let m = fieldLength r in
       length-append (fieldValue m r) (fieldValue 16 (afterField m r))
@@ -106,7 +106,7 @@ module _ (r : List ℕ) (has : hasSealed r ≡ true) where
       let m = fieldLength r in
       omega (arith, length-after 0x11 m r (sealed-told .2), length-after 0x12 16 (afterField m r) (sealed-told .3))
 
-  sealed-held : Bytes r → r ≡ sealedFields (fieldLength r) (sealedOf (fieldLength r) r) ++ afterField 16 (afterField (fieldLength r) r)
+  sealed-held : Bytes r → r ≡ sealedFields (fieldLength r) (fieldsJoined (fieldLength r) r) ++ afterField 16 (afterField (fieldLength r) r)
   unfolding sealedFields
   sealed-held b =
       let m = fieldLength r in
@@ -284,7 +284,7 @@ module _ (kind : Kind) (wf : WellFormed kind) (n : ℕ) (d : List ℕ) (m : ℕ)
       (unless-passes (hasSealed (afterHeader kind s)) _ _ (ap hasSealed (header .1) ∙ sealed .0) refl)))) in (
         frame-unit kind n s (unit-begins kind n d r wf) ∙ (λ i. frameOf (passed i) (Unit ((ap fieldLength (header .1) ∙ sealed .1) i))),
         details,
-        ap (sealedOf m) (header .1) ∙ sealed .2,
+        ap (fieldsJoined m) (header .1) ∙ sealed .2,
         ap (λ (l : List ℕ). afterField 16 (afterField m l)) (header .1) ∙ sealed .3,
       )
 

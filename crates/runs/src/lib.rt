@@ -9,13 +9,13 @@ ghost use lib.ListN.{length, take, drop};
 ghost use lib.Seq.{paste};
 ghost use Rattle.blockwise.specs.Blocks.{eachBlock};
 ghost use Rattle.rounds.specs.Cipher.{parts};
-ghost use Rattle.steps.specs.Tables.{Tables};
+ghost use Rattle.steps.specs.Lent.{LentTables};
 ghost use Rattle.runs.specs.Run.{aheadBlock, backBlock};
 ghost use Rattle.state.specs.Rows.{addRows};
 ghost use Rattle.state.specs.State.{rowsOf};
 
 // Whether n steps after s others are no more than 14.
-fn is_few(s: usize, n: usize) -> bool
+fn fits_table(s: usize, n: usize) -> bool
     ensures { λ r. ⌜ r ≡ leb (s + n) 14 ⌝ }
 {
     if 14 < n {
@@ -50,7 +50,7 @@ fn block_ahead<'a>(
     high: &'a [u16; 256],
     c: &'a [u8; 29],
 ) -> [u8; 16]
-    requires { ⌜ (s + n ≤ 14) × Tables (parts k .lbox) (now low) (now high) (now c) ⌝ }
+    requires { ⌜ (s + n ≤ 14) × LentTables (parts k .lbox) (now low) (now high) (now c) ⌝ }
     ensures { λ r. ⌜ r ≡ aheadBlock k s n first key tweak block ⌝ }
 {
     let h = tweakey::schedule_of(k, state::load(key), state::load(tweak));
@@ -73,7 +73,7 @@ fn one_ahead<'a>(
     high: &'a [u16; 256],
     c: &'a [u8; 29],
 )
-    requires { ⌜ (s + n ≤ 14) × Tables (parts k .lbox) (now low) (now high) (now c) × (at + 16 ≤ length (now tweaks)) × (at + 16 ≤ length (now blocks)) ⌝ }
+    requires { ⌜ (s + n ≤ 14) × LentTables (parts k .lbox) (now low) (now high) (now c) × (at + 16 ≤ length (now tweaks)) × (at + 16 ≤ length (now blocks)) ⌝ }
     ensures { λ r. ⌜ now (blocks .exit) ≡ paste (now (blocks .entry)) at (aheadBlock k s n first key (take 16 (drop at (now (tweaks .entry)))) (take 16 (drop at (now (blocks .entry))))) 16 ⌝ }
 {
     let tweak = blockwise::block_at(tweaks, at);
@@ -95,7 +95,7 @@ fn all_ahead<'a>(
     high: &'a [u16; 256],
     c: &'a [u8; 29],
 )
-    requires { ⌜ (s + n ≤ 14) × Tables (parts k .lbox) (now low) (now high) (now c) ⌝ }
+    requires { ⌜ (s + n ≤ 14) × LentTables (parts k .lbox) (now low) (now high) (now c) ⌝ }
     ensures { λ r. ⌜ now (blocks .exit) ≡ eachBlock (aheadBlock k s n first key) (now (tweaks .entry)) (now (blocks .entry)) ⌝ }
 {
     let m = blockwise::whole(tweaks.len(), blocks.len());
@@ -160,7 +160,7 @@ pub fn run_ahead(
 )
     ensures { λ r. ⌜ now (blocks .exit) ≡ cond (leb (s + n) 14) (eachBlock (aheadBlock k s n first key) (now (tweaks .entry)) (now (blocks .entry))) (now (blocks .entry)) ⌝ }
 {
-    if is_few(s, n) {
+    if fits_table(s, n) {
         looked_up_ahead(k, s, n, first, key, tweaks, blocks);
     }
 }
@@ -178,7 +178,7 @@ fn block_back<'a>(
     high: &'a [u16; 256],
     c: &'a [u8; 29],
 ) -> [u8; 16]
-    requires { ⌜ (s + n ≤ 14) × Tables (parts k .lboxInverse) (now low) (now high) (now c) ⌝ }
+    requires { ⌜ (s + n ≤ 14) × LentTables (parts k .lboxInverse) (now low) (now high) (now c) ⌝ }
     ensures { λ r. ⌜ r ≡ backBlock k s n last key tweak block ⌝ }
 {
     let h = tweakey::schedule_of(k, state::load(key), state::load(tweak));
@@ -201,7 +201,7 @@ fn one_back<'a>(
     high: &'a [u16; 256],
     c: &'a [u8; 29],
 )
-    requires { ⌜ (s + n ≤ 14) × Tables (parts k .lboxInverse) (now low) (now high) (now c) × (at + 16 ≤ length (now tweaks)) × (at + 16 ≤ length (now blocks)) ⌝ }
+    requires { ⌜ (s + n ≤ 14) × LentTables (parts k .lboxInverse) (now low) (now high) (now c) × (at + 16 ≤ length (now tweaks)) × (at + 16 ≤ length (now blocks)) ⌝ }
     ensures { λ r. ⌜ now (blocks .exit) ≡ paste (now (blocks .entry)) at (backBlock k s n last key (take 16 (drop at (now (tweaks .entry)))) (take 16 (drop at (now (blocks .entry))))) 16 ⌝ }
 {
     let tweak = blockwise::block_at(tweaks, at);
@@ -223,7 +223,7 @@ fn all_back<'a>(
     high: &'a [u16; 256],
     c: &'a [u8; 29],
 )
-    requires { ⌜ (s + n ≤ 14) × Tables (parts k .lboxInverse) (now low) (now high) (now c) ⌝ }
+    requires { ⌜ (s + n ≤ 14) × LentTables (parts k .lboxInverse) (now low) (now high) (now c) ⌝ }
     ensures { λ r. ⌜ now (blocks .exit) ≡ eachBlock (backBlock k s n last key) (now (tweaks .entry)) (now (blocks .entry)) ⌝ }
 {
     let m = blockwise::whole(tweaks.len(), blocks.len());
@@ -288,7 +288,7 @@ pub fn run_back(
 )
     ensures { λ r. ⌜ now (blocks .exit) ≡ cond (leb (s + n) 14) (eachBlock (backBlock k s n last key) (now (tweaks .entry)) (now (blocks .entry))) (now (blocks .entry)) ⌝ }
 {
-    if is_few(s, n) {
+    if fits_table(s, n) {
         looked_up_back(k, s, n, last, key, tweaks, blocks);
     }
 }

@@ -8,9 +8,9 @@ use lib.ListN.{length}
 use Rattle.bits.specs.Bytes.{Bytes}
 use Rattle.suites.specs.declared.suite.Suite.{Suite}
 use Rattle.sealing.specs.Seal.{sealed}
-use Rattle.tae.specs.Demand2.{Context}
-use Rattle.tae.specs.Open.{opened, agrees}
-use Rattle.tae.proofs.Demand2.{image-long, image-agrees, agrees-image}
+use Rattle.opening.specs.Demand2.{Context}
+use Rattle.opening.specs.Open.{opened, agrees}
+use Rattle.opening.proofs.Demand2.{image-long, image-agrees, agrees-image}
 use Rattle.format.specs.Sealings.{nonceOf}
 use Rattle.format.proofs.Lengths.{length-nonceOf}
 use Rattle.format.proofs.One.{bytes-nonceOf}

@@ -18,12 +18,12 @@ use Rattle.suites.specs.Suite.{listed}
 use Rattle.limits.specs.Limits.{headerLimit, textLimit}
 use Rattle.limits.specs.Tests.{unless, verifyTests}
 use Rattle.limits.proofs.Passed.{verify-passes}
-use Rattle.tae.specs.Open.{opened, agrees, thenTag}
-use Rattle.tae.proofs.Opened.{opened-long}
-use Rattle.opening.specs.declared.verify.VerifyAnswer.{VerifyAnswer}
-use Rattle.opening.specs.declared.verify.VerifyAnswer.the-variants.{Agrees, Refused as VerifyRefused}
-use Rattle.opening.specs.Verify.{verifyReport, verifyAnswer}
-use Rattle.opening.proofs.Answers.{verify-done}
+use Rattle.opening.specs.Open.{opened, agrees, thenTag}
+use Rattle.opening.proofs.Opened.{opened-long}
+use Rattle.verifying.specs.declared.verify.VerifyAnswer.{VerifyAnswer}
+use Rattle.verifying.specs.declared.verify.VerifyAnswer.the-variants.{Agrees, Refused as VerifyRefused}
+use Rattle.verifying.specs.Verify.{verifyReport, verifyAnswer}
+use Rattle.verifying.proofs.Answers.{verify-done}
 use Rattle.fields.specs.Field.{fieldValue, afterField}
 use Rattle.fields.specs.Kind.{Kind}
 use Rattle.kinds.specs.declared.Kind.{Kind as BookKind}

@@ -9,7 +9,7 @@ use Rattle.suites.specs.declared.refusal.Answer.{Answer}
 use Rattle.suites.specs.declared.refusal.Answer.the-variants.{Done}
 use Rattle.suites.specs.declared.refusal.Refusal.the-variants.{TagDiffers, SegmentLength, FieldMalformed}
 use Rattle.limits.specs.Tests.{unless}
-use Rattle.tae.specs.Open.{opened, agrees}
+use Rattle.opening.specs.Open.{opened, agrees}
 use Rattle.fields.specs.Kind.{Kind}
 use Rattle.fields.specs.Unit.{sourceLength, textInRange}
 use Rattle.kinds.specs.Lengths.{headerLength, closeHeaderLength}

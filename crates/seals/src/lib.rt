@@ -1,6 +1,6 @@
 // The seal of one frame of a book: of a unit, and of the close. Functions with a precondition serve our own crates, which have read the frame.
 use kinds::Kind;
-use opening::verify::VerifyAnswer;
+use verifying::verify::VerifyAnswer;
 use parser::frame::Frame;
 use suites::refusal::Answer;
 use suites::refusal::Refusal;
@@ -11,7 +11,7 @@ ghost use lib.ListN.{length, take, drop};
 ghost use Rattle.fields.specs.Unit.{textInRange};
 ghost use Rattle.format.specs.Sealings.{nonceOf};
 ghost use Rattle.kinds.specs.Kind.{kindOf};
-ghost use Rattle.opening.specs.Verify.{verifyAnswer};
+ghost use Rattle.verifying.specs.Verify.{verifyAnswer};
 ghost use Rattle.parser.specs.Frame.{frameSealed, closeSealed, frameAt};
 ghost use Rattle.parser.specs.Opening.{openingNumber, openingSuite};
 ghost use Rattle.seals.specs.Parts.{Under, PartsOf, Placed};
@@ -104,7 +104,7 @@ fn verify(key: &[u8], front: &[u8], p: Parts, s: &[u8]) -> VerifyAnswer
     let start = p.start;
     let end = p.end;
     let tag = p.tag;
-    opening::verify::verify_apart(suite, key, &nonce, &along[..len], &s[start..end], tag)
+    verifying::verify::verify_apart(suite, key, &nonce, &along[..len], &s[start..end], tag)
 }
 
 // The seal of the unit at the start of s, whose ciphertext has m bytes, and the range of its text. Refusals: 8, 12.

@@ -11,7 +11,7 @@ ghost use Rattle.lbox.specs.Lbox;
 ghost use Rattle.sbox.specs.Sbox;
 ghost use Rattle.lbox.specs.Tables.{lookedUp, lows, highs};
 ghost use Rattle.rounds.specs.Cipher.{parts, constant, addConstant, round, unround, steps, unsteps};
-ghost use Rattle.steps.specs.Tables.{Tables};
+ghost use Rattle.steps.specs.Lent.{LentTables};
 ghost use Rattle.tweakey.specs.Schedule.{tweakeysIn};
 ghost use Rattle.state.specs.State.{rowsOf};
 
@@ -124,7 +124,7 @@ fn two_rounds<'a>(
     high: &'a [u16; 256],
     c: &'a [u8; 29],
 ) -> [u16; 8]
-    requires { ⌜ (s < 14) × Tables (parts k .lbox) (now low) (now high) (now c) ⌝ }
+    requires { ⌜ (s < 14) × LentTables (parts k .lbox) (now low) (now high) (now c) ⌝ }
     ensures { λ r. ⌜ r ≡ round (parts k) (2 * s + 2) (round (parts k) (2 * s + 1) w) ⌝ }
 {
     let mut x = w;
@@ -146,7 +146,7 @@ fn two_rounds_back<'a>(
     high: &'a [u16; 256],
     c: &'a [u8; 29],
 ) -> [u16; 8]
-    requires { ⌜ (s < 14) × Tables (parts k .lboxInverse) (now low) (now high) (now c) ⌝ }
+    requires { ⌜ (s < 14) × LentTables (parts k .lboxInverse) (now low) (now high) (now c) ⌝ }
     ensures { λ r. ⌜ r ≡ unround (parts k) (2 * s + 1) (unround (parts k) (2 * s + 2) w) ⌝ }
 {
     let mut x = w;
@@ -170,7 +170,7 @@ pub fn steps<'a>(
     high: &'a [u16; 256],
     c: &'a [u8; 29],
 ) -> State
-    requires { ⌜ (s + n ≤ 14) × Tables (parts k .lbox) (now low) (now high) (now c) ⌝ }
+    requires { ⌜ (s + n ≤ 14) × LentTables (parts k .lbox) (now low) (now high) (now c) ⌝ }
     ensures { λ r. ⌜ rowsOf r ≡ steps (parts k) (tweakeysIn k h) s n (rowsOf x) ⌝ }
 {
     let mut y = x;
@@ -195,7 +195,7 @@ pub fn steps_back<'a>(
     high: &'a [u16; 256],
     c: &'a [u8; 29],
 ) -> State
-    requires { ⌜ (s + n ≤ 14) × Tables (parts k .lboxInverse) (now low) (now high) (now c) ⌝ }
+    requires { ⌜ (s + n ≤ 14) × LentTables (parts k .lboxInverse) (now low) (now high) (now c) ⌝ }
     ensures { λ r. ⌜ rowsOf r ≡ unsteps (parts k) (tweakeysIn k h) s n (rowsOf x) ⌝ }
 {
     let mut y = x;

@@ -32,7 +32,7 @@ pub fn mark(n: usize, whole: u8, partial: u8) -> u8
 }
 
 // n, but at most 64.
-pub fn few(n: usize) -> usize
+pub fn up_to_64(n: usize) -> usize
     ensures { λ r. ⌜ r ≡ min n 64 ⌝ }
 {
     if n < 64 { n } else { 64 }
@@ -79,7 +79,7 @@ fn blocks(ahead: bool, suite: Suite, key: [u8; 16], nonce: &[u8], first: TextBlo
     let n = s.len() / 16;
     let mut done: usize = 0;
     while done < n {
-        let k = few(n - done);
+        let k = up_to_64(n - done);
         let at = 16 * done;
         chunk(
             ahead,

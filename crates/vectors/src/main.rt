@@ -1,10 +1,10 @@
 // Runs the cases that another implementation made and writes what comes out. The file `stdout` beside this folder is made from the
 // same cases by tests/expected.
-use opening::verify::VerifyAnswer;
-use reader::check::CheckAnswer;
+use verifying::verify::VerifyAnswer;
+use checker::check::CheckAnswer;
 use sealing::seal::SealAnswer;
 use suites::suite::Suite;
-use tae::open::OpenAnswer;
+use opening::open::OpenAnswer;
 ghost use mathlib.Core.Path.{_≡_};
 ghost use Prim.Native.Nat.{_<_, _≤_};
 ghost use lib.ListN.{length};
@@ -158,7 +158,7 @@ fn run_seal(suite: Suite, key: &[u8], nonce: &[u8], header: &[u8], text: &[u8]) 
 
 // The text's first two bytes.
 fn run_verify(suite: Suite, key: &[u8], nonce: &[u8], header: &[u8], sealed: &[u8]) {
-    match opening::verify::verify(suite, key, nonce, header, sealed) {
+    match verifying::verify::verify(suite, key, nonce, header, sealed) {
         VerifyAnswer::Agrees(first, second) => {
             write_byte(first);
             write_byte(second);
@@ -170,7 +170,7 @@ fn run_verify(suite: Suite, key: &[u8], nonce: &[u8], header: &[u8], sealed: &[u
 // The text.
 fn run_open(suite: Suite, key: &[u8], nonce: &[u8], header: &[u8], sealed: &[u8]) {
     let mut out = text_room();
-    match tae::open::open(suite, key, nonce, header, sealed, &mut out) {
+    match opening::open::open(suite, key, nonce, header, sealed, &mut out) {
         OpenAnswer::Opened(n) => write_bytes(&out, n),
         OpenAnswer::Refused(why) => report::refusal(why),
     }
@@ -220,7 +220,7 @@ fn run_check(s: &[u8], at: usize)
     let k = decode(s, at, &mut key);
     let at_book = behind(s, at, b' ');
     let n = decode(s, at_book, &mut book);
-    match reader::check::check(&key[..k], &book[..n]) {
+    match checker::check::check(&key[..k], &book[..n]) {
         CheckAnswer::Accepted(units, calls) => {
             report::text(b"ok:");
             report::number(units);

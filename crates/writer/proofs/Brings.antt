@@ -19,7 +19,7 @@ use Rattle.format.specs.Sealings.{Sealing, unitSealing, closeSealing, unitSeali
 use Rattle.format.proofs.Lengths.{length-unitBytes, length-closeBytes, length-sealingCalls}
 use Rattle.writer.specs.declared.Writer.{Writer}
 use Rattle.writer.specs.Writer.{putAt, addOutcome}
-use Rattle.writer.specs.History.{Call, add, close, Callable, adds, closes, State, outcome, step, unitsOf, isClose, sealingsOf}
+use Rattle.writer.specs.History.{Call, add, close, Callable, adds, closes, State, outcome, afterCall, unitsOf, isClose, sealingsOf}
 use Rattle.writer.proofs.Handed.{add-handed, close-handed}
 use Rattle.writer.proofs.Passed.{add-passed, close-passed}
 
@@ -49,7 +49,7 @@ brought kind c e =
 
 -- what is true of an accepted call: all that the writer's half of demand 3 asks of it
 pub record Brings (kind : Kind) (c : Call) (e : State) : Type 0 where
-  pub leaves : step kind c e ≡ brought kind c e
+  pub leaves : afterCall kind c e ≡ brought kind c e
   pub unclosed : e .writer .closed ≡ false
   pub enough : e .writer .place + length (bytesOf kind c (e .writer)) ≤ length (e .buffer)
   -- the units are allowed at their numbers, and not too many
@@ -150,6 +150,6 @@ module _ (kind : Kind) (e : State) where
   brings (add u) (adds g) done = add-brings u g done
   brings close closes done = close-brings done
 
-  pub refused : (c : Call) {why : Refusal} → outcome kind c e ≡ Refused why → step kind c e ≡ e
+  pub refused : (c : Call) {why : Refusal} → outcome kind c e ≡ Refused why → afterCall kind c e ≡ e
   refused (add u) r = let h = add-handed kind w u (e .buffer) r in sym (λ j. record { writer = h .0 j; buffer = h .1 j })
   refused close r = let h = close-handed kind w (e .buffer) r in sym (λ j. record { writer = h .0 j; buffer = h .1 j })

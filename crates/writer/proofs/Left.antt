@@ -30,8 +30,8 @@ use Rattle.writer.specs.History.{
   adds,
   State,
   outcome,
-  step,
-  run,
+  afterCall,
+  afterCalls,
   unitsOf,
   units,
   isClose,
@@ -163,17 +163,17 @@ module _ (kind : Kind) (s : Start) where
     -- a refused call changes nothing and brings nothing
     answer-stands : (a : Answer) → outcome kind c e ≡ a
         → Stands (us ++ byAnswer a (unitsOf c) []) (closed || byAnswer a (isClose c) false) (ss ++ byAnswer a (sealingsOf kind c (e .writer)) [])
-        (step kind c e)
+        (afterCall kind c e)
     answer-stands Done d = let b = brings kind e c k d in rw (b .leaves) (brings-stands c i b)
     answer-stands (Refused why) d = rw (append-nil us, or-false closed, append-nil ss, refused kind e c d) i
 
     call-stands : Stands (us ++ byAnswer (outcome kind c e) (unitsOf c) []) (closed || byAnswer (outcome kind c e) (isClose c) false)
-        (ss ++ byAnswer (outcome kind c e) (sealingsOf kind c (e .writer)) []) (step kind c e)
+        (ss ++ byAnswer (outcome kind c e) (sealingsOf kind c (e .writer)) []) (afterCall kind c e)
     call-stands = answer-stands (outcome kind c e) refl
 
   run-stands : {us : List BookUnit} {closed : Bool} {ss : List Sealing} {e : State} (cs : List Call) → Each (Callable kind) cs → Stands us closed ss e
-      → Stands (us ++ units kind cs e) (closed || hasClose kind cs e) (ss ++ sealings kind cs e) (run kind cs e)
-  unfolding run units hasClose sealings
+      → Stands (us ++ units kind cs e) (closed || hasClose kind cs e) (ss ++ sealings kind cs e) (afterCalls kind cs e)
+  unfolding afterCalls units hasClose sealings
   run-stands {us} {closed} {ss} [] none i = rw (append-nil us, or-false closed, append-nil ss) i
   run-stands {us} {closed} {ss} {e} (c ∷ cs) (more k ks) i =
       rw (← append-assoc us, ← or-assoc closed, ← append-assoc ss) (run-stands cs ks (call-stands i c k))
@@ -281,7 +281,7 @@ module _ (kind : Kind) (formed : WellFormed kind) where
       ((λ j. byAnswer {A = List BookUnit} (done j) [] [] ++ []), (λ j. byAnswer (done j) true false || false))
   ready-writes (u ∷ us) e (moreFrom a each) r =
       let done = add-done a r in
-      let after : step kind (add u) e ≡ brought kind (add u) e = brings kind e (add u) (adds (a .given)) done .leaves in
+      let after : afterCall kind (add u) e ≡ brought kind (add u) e = brings kind e (add u) (adds (a .given)) done .leaves in
       let rest = ready-writes us (brought kind (add u) e) (rw add-one each) (add-ready a r) in (
         (λ j. byAnswer (done j) (u ∷ []) [] ++ units kind (writing us) (after j)) ∙ ap (λ (x : List BookUnit). u ∷ x) (rest .0),
         (λ j. byAnswer (done j) false false || hasClose kind (writing us) (after j)) ∙ rest .1,

@@ -36,14 +36,14 @@ outcome kind (add u) s = addOutcome kind (s .writer) u (length (s .buffer))
 outcome kind close s = closeOutcome kind (s .writer) (length (s .buffer))
 
 -- and what it leaves
-abbrev pub step : Kind → Call → State → State
-step kind (add u) s = record { writer = addWriter kind (s .writer) u (s .buffer); buffer = addBuffer kind (s .writer) u (s .buffer) }
-step kind close s = record { writer = closeWriter kind (s .writer) (s .buffer); buffer = closeBuffer kind (s .writer) (s .buffer) }
+abbrev pub afterCall : Kind → Call → State → State
+afterCall kind (add u) s = record { writer = addWriter kind (s .writer) u (s .buffer); buffer = addBuffer kind (s .writer) u (s .buffer) }
+afterCall kind close s = record { writer = closeWriter kind (s .writer) (s .buffer); buffer = closeBuffer kind (s .writer) (s .buffer) }
 
 -- what a list of calls leaves, refused ones included
-unfoldable pub run : Kind → List Call → State → State
-run kind [] s = s
-run kind (c ∷ cs) s = run kind cs (step kind c s)
+unfoldable pub afterCalls : Kind → List Call → State → State
+afterCalls kind [] s = s
+afterCalls kind (c ∷ cs) s = afterCalls kind cs (afterCall kind c s)
 
 -- "The units of a list are, in order, the language pair, source and target of each accepted add; a close or a refused call brings none."
 abbrev pub unitsOf : Call → List BookUnit
@@ -52,7 +52,7 @@ unitsOf close = []
 
 unfoldable pub units : Kind → List Call → State → List BookUnit
 units kind [] s = []
-units kind (c ∷ cs) s = byAnswer (outcome kind c s) (unitsOf c) [] ++ units kind cs (step kind c s)
+units kind (c ∷ cs) s = byAnswer (outcome kind c s) (unitsOf c) [] ++ units kind cs (afterCall kind c s)
 
 -- whether a close was accepted
 abbrev pub isClose : Call → Bool
@@ -61,7 +61,7 @@ isClose close = true
 
 unfoldable pub hasClose : Kind → List Call → State → Bool
 hasClose kind [] s = false
-hasClose kind (c ∷ cs) s = byAnswer (outcome kind c s) (isClose c) false || hasClose kind cs (step kind c s)
+hasClose kind (c ∷ cs) s = byAnswer (outcome kind c s) (isClose c) false || hasClose kind cs (afterCall kind c s)
 
 -- "The cipher calls of an accepted add or close are the call list of its sealing. That sealing is demand 2's, under the start's suite and
 -- key with the nonce and header above": the sealings of the accepted calls, first of a call's units, then of a close
@@ -72,7 +72,7 @@ sealingsOf kind c w =
 
 unfoldable pub sealings : Kind → List Call → State → List Sealing
 sealings kind [] s = []
-sealings kind (c ∷ cs) s = byAnswer (outcome kind c s) (sealingsOf kind c (s .writer)) [] ++ sealings kind cs (step kind c s)
+sealings kind (c ∷ cs) s = byAnswer (outcome kind c s) (sealingsOf kind c (s .writer)) [] ++ sealings kind cs (afterCall kind c s)
 
 -- a start that is accepted: what it was given
 pub record Start : Type 0 where

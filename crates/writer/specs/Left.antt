@@ -10,7 +10,7 @@ use Rattle.fields.specs.Kind.{Kind, WellFormed}
 use Rattle.format.specs.Layout.{unitsBytes, closeBytes, bookLength, Bookable}
 use Rattle.format.specs.Sealings.{Sealing, openingFields, unitSealings, closeSealing, cipherCalls, callTotal}
 use Rattle.fields.specs.Unit.{BookUnit, Allowed}
-use Rattle.writer.specs.History.{Call, add, close, Callable, State, Start, started, run, units, hasClose, sealings}
+use Rattle.writer.specs.History.{Call, add, close, Callable, State, Start, started, afterCalls, units, hasClose, sealings}
 
 -- "Before the writer's place stand fields 01 and 02, the unit of each accepted add in order, then an accepted close": under what the
 -- start was given, with these units, and closed or not
@@ -55,7 +55,7 @@ writing us = map add us ++ close ∷ []
 pub record WriterHalf (kind : Kind) : Type 0 where
   -- whatever the calls
   pub leaves : (s : Start) (cs : List Call) → Each (Callable kind) cs
-      → Leaves kind s (units kind cs (started s)) (hasClose kind cs (started s)) (sealings kind cs (started s)) (run kind cs (started s))
+      → Leaves kind s (units kind cs (started s)) (hasClose kind cs (started s)) (sealings kind cs (started s)) (afterCalls kind cs (started s))
   -- every list of allowed units that is not too long, and for which the buffer has room, can be written: each add is accepted, and the
   -- close
   pub writes : (s : Start) (us : List BookUnit) → EachFrom (Allowed kind) 0 us → length us ≤ kind .unitLimit → bookLength kind us ≤ length (s .buffer)

@@ -6,7 +6,7 @@ use borrow.Author.Tests.{le-leb, lt-leb, ne-eqb}
 use lib.ListN.{length, take}
 use lib.Seq.{take-all}
 use Rattle.parser.specs.Opening.{checkTests}
-use Rattle.reader.specs.Check.{checkAnswerOf, checkAnswer}
+use Rattle.checker.specs.Check.{checkAnswerOf, checkAnswer}
 use Rattle.parser.proofs.Openings.{part-rest}
 use Rattle.check_book.specs.Line.{checkedLine, lineOf}
 use Rattle.check_book.proofs.told.Statement.{statement}

@@ -8,7 +8,7 @@ use lib.ListN.{length}
 use Rattle.suites.specs.declared.refusal.Answer.the-variants.{Done}
 use Rattle.suites.specs.declared.refusal.Refusal.the-variants.{FieldMalformed}
 use Rattle.limits.specs.Tests.{unless}
-use Rattle.opening.specs.Verify.{verifyAnswer}
+use Rattle.verifying.specs.Verify.{verifyAnswer}
 use Rattle.kinds.specs.Kind.{kindOf}
 use Rattle.parser.specs.Frame.{afterClose}
 use Rattle.parser.specs.Opening.{openingSuite}

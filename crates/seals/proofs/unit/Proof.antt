@@ -5,7 +5,7 @@ use borrow.Author.Tests.{not-true, not-false}
 use Rattle.suites.specs.declared.refusal.Answer.the-variants.{Done}
 use Rattle.suites.specs.declared.refusal.Refusal.the-variants.{SegmentLength}
 use Rattle.limits.specs.Tests.{unless}
-use Rattle.opening.specs.Verify.{verifyAnswer}
+use Rattle.verifying.specs.Verify.{verifyAnswer}
 use Rattle.kinds.specs.Kind.{kindOf}
 use Rattle.parser.specs.Opening.{openingSuite}
 use Rattle.parser.proofs.Frames.{UnitTold, unit-told}

@@ -6,7 +6,7 @@ use borrow.Author.Needs.{needs}
 use lib.ListN.{take, drop}
 use lib.Seq.{length-take-le}
 use Rattle.suites.specs.declared.suite.Suite.{Suite}
-use Rattle.opening.specs.Verify.{verifyAnswer}
+use Rattle.verifying.specs.Verify.{verifyAnswer}
 use Rattle.seals.proofs.verify.Statement.{statement}
 use Rattle.seals.proofs.verify.Tie as tie
 

@@ -12,7 +12,7 @@ use Rattle.parser.specs.declared.frame.Frame.the-variants.{Unit, Close, Refused
 use Rattle.parser.specs.Frame.{frameAt}
 use Rattle.parser.proofs.Frames.{UnitTold, unit-told}
 use Rattle.seals.specs.Seal.{closeSealTests, unitOpened}
-use Rattle.fetch.specs.Fetch.{andThen, unitOutcome, closeOutcome, placedReport}
+use Rattle.fetch.specs.Fetch.{andThen, unitOutcome, closeMet, placedReport}
 use Rattle.fetch.proofs.Handed.{none-left, hands-next, frame-hands}
 use Rattle.fetch.proofs.unit.fetch_frame.Statement.{statement}
 use Rattle.fetch.proofs.unit.fetch_frame.Tie as tie
@@ -53,7 +53,7 @@ returns c =
     (sym (h .at .ensures) ∙ g .frame .given .1) (refl, refl)
 
 returns-2 : tie.Need-returns-2
-unfolding closeOutcome
+unfolding closeMet
 returns-2 c =
     let k = c .before in
     let h = k .before .before .before in

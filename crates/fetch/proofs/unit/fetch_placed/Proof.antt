@@ -13,7 +13,7 @@ use Rattle.parser.proofs.Openings.{part-rest}
 use Rattle.seals.specs.Parts.{Under}
 use Rattle.seals.proofs.Tested.{tested-under}
 use Rattle.walk.proofs.Places.{drop-least}
-use Rattle.fetch.specs.Fetch.{outcomeAt, textAt, nextOf, placedAnswer, placedBuffer}
+use Rattle.fetch.specs.Fetch.{outcomeHere, textAt, nextOf, placedAnswer, placedBuffer}
 use Rattle.fetch.proofs.Handed.{next-same, tests-hand}
 use Rattle.fetch.proofs.unit.fetch_placed.Statement.{statement}
 use Rattle.fetch.proofs.unit.fetch_placed.Tie as tie
@@ -70,7 +70,7 @@ returns-2 c =
     let kind = k .of-book .ensures in
     tests-hand (kindOf (bookKind s)) (a .key .now) s (a .n) (a .at) o Done (sym (h .tests-under .ensures) ∙ e .enum-told .given .1)
     (next-same o
-    (λ i. outcomeAt (kindOf (kind i)) (a .key .now) (take 16 s) (a .n) (rest l i) (length o))
+    (λ i. outcomeHere (kindOf (kind i)) (a .key .now) (take 16 s) (a .n) (rest l i) (length o))
     (λ i. textAt (kindOf (kind i)) (a .key .now) (take 16 s) (a .n) (rest l i))
     (λ i. nextOf (kindOf (kind i)) (a .at) (frameAt (kindOf (kind i)) (a .n) (rest l i)))
     (f .fetch-frame .ensures))

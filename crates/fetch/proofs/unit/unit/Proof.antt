@@ -6,8 +6,8 @@ use borrow.Author.Needs.{needs}
 use lib.ListN.{length, take, replicate, length-replicate}
 use lib.Seq.{length-take-le}
 use Rattle.kinds.specs.Kind.{kindOf}
-use Rattle.opening.specs.Verify.{verifyOutcome}
-use Rattle.opening.specs.Within.{withinBuffer}
+use Rattle.verifying.specs.Verify.{verifyOutcome}
+use Rattle.verifying.specs.Within.{withinBuffer}
 use Rattle.parser.proofs.Frames.{UnitTold, unit-told}
 use Rattle.seals.specs.Seal.{unitOpened}
 use Rattle.seals.proofs.Verified.{unit-opened-long}

@@ -1,0 +1,194 @@
+-- Demand 2 holds.
+use mathlib.Core.Path.{_≡_, refl, sym, ap, _∙_}
+use mathlib.Core.Bool.{Bool, true, false, _&&_, false≢true}
+use mathlib.Core.Logic.{_⊎_, inl, inr}
+use mathlib.Core.List.{List, _++_}
+use Prim.Native.Nat.{ℕ, zero, suc, _+_, _-_, _≤_, _<_}
+use native.Mathlib.Decide.{ℕ-discrete}
+use native.Mathlib.Nat.{suc-inj}
+use native.Mathlib.Omega.{arith}
+use borrow.Author.Tests.{eqb-true, eq-eqb}
+use lib.Dec.{eqb}
+use lib.ListN.{length, getD, take, drop, length-drop}
+use lib.Seq.{ext-getD, take-at, length-take-le}
+use Rattle.bits.specs.Bytes.{Bytes}
+use Rattle.calls.specs.Calls.{checksum, calls}
+use Rattle.calls.specs.Pieces.{through, headerSum}
+use Rattle.calls.specs.Sealing.{openingTag}
+use Rattle.calls.proofs.ByBlocks.{openingTag-is, length-tagFrom, length-checksum, length-headerSum, length-sealing}
+use Rattle.calls.proofs.Exact.{open-exact, open-sealed}
+use Rattle.suites.specs.declared.refusal.Answer.the-variants.{Done}
+use Rattle.suites.specs.declared.refusal.Answer.{Answer}
+use Rattle.suites.specs.declared.suite.Suite.{Suite}
+use Rattle.limits.proofs.Passed.{Openable as Passing, seal-passed, open-passed, open-passes}
+use Rattle.bits.specs.Bytes.{sameBytes}
+use Rattle.text_blocks.specs.Under.{enciphers, deciphers}
+use Rattle.text_blocks.proofs.Chunks.{enciphers-blockwise, deciphers-blockwise}
+use Rattle.opening.specs.Demand2.{Context, image, Sealable, Openable, Accepts, Differs, Demand2}
+use Rattle.opening.specs.Open.{ciphertext, opened, agrees, thenTag, openReport, openAnswer, openBuffer}
+use Rattle.sealing.specs.Seal.{sealed, sealOutcome, sealReport, sealAnswer, sealBuffer, written}
+use Rattle.opening.specs.declared.open.OpenAnswer.{OpenAnswer}
+use Rattle.opening.specs.declared.open.OpenAnswer.the-variants.{Opened, Refused as OpenRefused}
+use Rattle.sealing.specs.declared.seal.SealAnswer.the-variants.{Sealed}
+use Rattle.sealing.proofs.One.{inverse, sealed-one}
+use Rattle.opening.proofs.Answers.{open-done}
+use Rattle.opening.proofs.Opened.{opened-long}
+
+-- strings that are compared byte by byte
+same-all : (n : ℕ) (x y : List ℕ) → sameBytes n x y ≡ true → (i : ℕ) → i < n → getD x i 0 ≡ getD y i 0
+same-all zero x y e i h = absurd (omega arith)
+same-all (suc n) x y e i h = last (ℕ-discrete i n) (λ l. same-all n x y (left (sameBytes n x y) (eqb (getD x n 0) (getD y n 0)) e) i l)
+  where
+    left : (a b : Bool) → (a && b) ≡ true → a ≡ true
+    left true b q = refl
+    left false b q = q
+
+    right : (a b : Bool) → (a && b) ≡ true → b ≡ true
+    right true b q = q
+    right false b q = absurd (false≢true q)
+
+    last : Dec (i ≡ n) → (i < n → getD x i 0 ≡ getD y i 0) → getD x i 0 ≡ getD y i 0
+    last (yes p) r = rw p (eqb-true (getD x n 0) (getD y n 0) (right (sameBytes n x y) (eqb (getD x n 0) (getD y n 0)) e))
+    last (no d) r = r (omega arith)
+
+same-equal : (n : ℕ) (x y : List ℕ) → length x ≡ n → length y ≡ n → sameBytes n x y ≡ true → x ≡ y
+same-equal n x y lx ly e = ext-getD 0 x y (lx ∙ sym ly) (λ i h. same-all n x y e i (rw lx at h))
+
+same-refl : (n : ℕ) (x : List ℕ) → sameBytes n x x ≡ true
+same-refl zero x = refl
+same-refl (suc n) x = λ i. same-refl n x i && eq-eqb (getD x n 0) (getD x n 0) refl i
+
+-- an accepted text's length, and one more; 0 for a refusal
+told : OpenAnswer → ℕ
+told (Opened n) = suc n
+told (OpenRefused why) = 0
+
+module _ (u : Context) (key-bytes : Bytes (u .key)) (nonce-bytes : Bytes (u .nonce)) where
+  S : Suite
+  S = record { cipher = u .cipher; steps = u .steps }
+
+  tag-long : length (u .nonce) ≤ 15 → (x : List ℕ) → length (openingTag (enciphers S (u .key)) (deciphers S (u .key)) (u .nonce) (u .header) x) ≡ 16
+  unfolding S
+  tag-long short x =
+      let e = enciphers S (u .key) in
+      let k = enciphers-blockwise S (u .key) in
+      let y = through (deciphers S (u .key)) e (u .nonce) (length x) 0 x in
+      ap length (openingTag-is e (deciphers S (u .key)) k (u .nonce) short (u .header) (deciphers-blockwise S (u .key)) x)
+      ∙ length-tagFrom e k (u .nonce) short (length x) (checksum y) (headerSum e (u .nonce) (u .header)) (length-checksum y) (length-headerSum e k (u .nonce) short (u .header))
+
+  pub image-long : length (u .nonce) ≤ 15 → (t : List ℕ) → length (image u t) ≡ length t + 16
+  unfolding S sealed
+  image-long short t = length-sealing (enciphers S (u .key)) (deciphers S (u .key)) (enciphers-blockwise S (u .key)) (u .nonce) short (u .header) t
+
+  pub image-one : length (u .key) ≡ 16 → length (u .nonce) ≤ 15 → (t₁ t₂ : List ℕ) → Bytes t₁ → Bytes t₂ → image u t₁ ≡ image u t₂ → t₁ ≡ t₂
+  unfolding S
+  image-one l short t₁ t₂ b₁ b₂ q = sealed-one S (u .key) l key-bytes (u .nonce) (u .header) short nonce-bytes t₁ t₂ b₁ b₂ q
+
+  -- sealed bytes agree in their tag and have the text t, if and only if they are t's image: of `open` and `verify` alike
+  module _ (s : List ℕ) (whole : length (u .key) ≡ 16) (short : length (u .nonce) ≤ 15) where
+    pub image-agrees : (t : List ℕ) → Bytes t → image u t ≡ s
+        → (agrees (u .cipher) (u .steps) (u .key) (u .nonce) (u .header) s ≡ true) × (opened (u .cipher) (u .steps) (u .key) (u .nonce) (u .header) s ≡ t)
+    unfolding S sealed opened agrees
+    image-agrees t bt q =
+        let o = open-sealed (enciphers S (u .key)) (deciphers S (u .key)) (enciphers-blockwise S (u .key)) (deciphers-blockwise S (u .key)) (inverse S (u .key) whole key-bytes) (u .nonce) short nonce-bytes (u .header) s t bt q in
+        (ap (λ (l : List ℕ). sameBytes 16 l (drop (length s - 16) s)) (o .0) ∙ same-refl 16 (drop (length s - 16) s), o .1)
+
+    pub agrees-image : (t : List ℕ) → 16 ≤ length s → Bytes s → agrees (u .cipher) (u .steps) (u .key) (u .nonce) (u .header) s ≡ true
+        → opened (u .cipher) (u .steps) (u .key) (u .nonce) (u .header) s ≡ t → Bytes t × (image u t ≡ s)
+    unfolding S sealed opened agrees
+    agrees-image t long bs a q =
+        let e = enciphers S (u .key) in
+        let d = deciphers S (u .key) in
+        let tag : openingTag e d (u .nonce) (u .header) (ciphertext s) ≡ drop (length s - 16) s =
+        same-equal 16 (openingTag e d (u .nonce) (u .header) (ciphertext s)) (drop (length s - 16) s) (tag-long short (ciphertext s)) (length-drop (length s - 16) s ∙ omega arith) a in
+        open-exact e d (enciphers-blockwise S (u .key)) (deciphers-blockwise S (u .key)) (inverse S (u .key) whole key-bytes) (u .nonce) short nonce-bytes (u .header) s t bs .0 (tag, q)
+
+  module _ (s out : List ℕ) (op : Openable u s out) where
+    A : Bool
+    A = agrees (u .cipher) (u .steps) (u .key) (u .nonce) (u .header) s
+
+    text : List ℕ
+    text = opened (u .cipher) (u .steps) (u .key) (u .nonce) (u .header) s
+
+    p : Passing (u .cipher) (u .steps) (length (u .key)) (length (u .nonce)) (length (u .header)) (length s) (length out)
+    p = open-passed (u .cipher) (u .steps) (length (u .key)) (length (u .nonce)) (length (u .header)) (length s) (length out) op
+
+    text-long : length text ≡ length s - 16
+    unfolding S text
+    text-long = opened-long S (u .key) (u .nonce) (u .header) s out (p .short) ∙ length-take-le (length s - 16) s (omega arith)
+
+    -- the answer and the output, by what the comparison said
+    answer : (v : Bool) → A ≡ v → openReport (thenTag Done v) (length s - 16) ≡ openAnswer (u .cipher) (u .steps) (u .key) (u .nonce) (u .header) s out
+    unfolding S A
+    answer v e = ap (λ (b : Bool). openReport (thenTag Done b) (length s - 16)) (sym e) ∙ open-done S (u .key) (u .nonce) (u .header) s out op .0
+
+    buffer : (v : Bool) → A ≡ v → written (thenTag Done v) text out ≡ openBuffer (u .cipher) (u .steps) (u .key) (u .nonce) (u .header) s out
+    unfolding S A text
+    buffer v e = ap (λ (b : Bool). written (thenTag Done b) text out) (sym e) ∙ open-done S (u .key) (u .nonce) (u .header) s out op .1
+
+    accepted : (t : List ℕ) → A ≡ true → text ≡ t → Accepts u s out t
+    accepted t e q = (
+      sym (answer true e) ∙ ap Opened (sym text-long ∙ ap length q),
+      sym (buffer true e) ∙ ap (λ (l : List ℕ). l ++ drop (length l) out) q,
+    )
+
+    agreed : (t : List ℕ) → Accepts u s out t → (A ≡ true) × (text ≡ t)
+    unfolding told
+    agreed t (a, b) = by A refl
+      where
+        by : (v : Bool) → A ≡ v → (A ≡ true) × (text ≡ t)
+        by true e =
+            let n : length s - 16 ≡ length t = suc-inj (ap told (answer true e ∙ a)) in
+            let both : text ++ drop (length text) out ≡ t ++ drop (length t) out = buffer true e ∙ b in
+            (e, sym (take-at text (drop (length text) out) (length t) (text-long ∙ n)) ∙ ap (take (length t)) both ∙ take-at t (drop (length t) out) (length t) refl)
+        by false e =
+            let z : 0 ≡ suc (length t) = ap told (answer false e ∙ a) in
+            absurd (omega arith)
+
+    answers : ((t : List ℕ) × Accepts u s out t) ⊎ Differs u s out
+    answers = by A refl
+      where
+        by : (v : Bool) → A ≡ v → ((t : List ℕ) × Accepts u s out t) ⊎ Differs u s out
+        by true e = inl (text, accepted text e refl)
+        by false e = inr (sym (answer false e), sym (buffer false e))
+
+    image-accepted : (t : List ℕ) → Bytes t → image u t ≡ s → Accepts u s out t
+    unfolding A text
+    image-accepted t bt q = let o = image-agrees s (p .key) (p .short) t bt q in accepted t (o .0) (o .1)
+
+    accepted-image : (t : List ℕ) → Bytes s → Accepts u s out t → Bytes t × (image u t ≡ s)
+    unfolding A text
+    accepted-image t bs a = agrees-image s (p .key) (p .short) t (p .long) bs (agreed t a .0) (agreed t a .1)
+
+  -- what was sealed can be opened wherever there is room
+  image-openable : (t out room : List ℕ) → Sealable u t out → length t ≤ length room → Openable u (image u t) room
+  unfolding sealOutcome
+  image-openable t out room done h =
+      let q = seal-passed (u .cipher) (u .steps) (length (u .key)) (length (u .nonce)) (length (u .header)) (length t) (length out) done in
+      let l = image-long (q .short) t in
+      let m : length (image u t) - 16 ≡ length t = omega arith in
+      open-passes (u .cipher) (u .steps) (length (u .key)) (length (u .nonce)) (length (u .header)) (length (image u t)) (length room)
+      (record { suite = q .suite; key = q .key; nonce = q .nonce; short = q .short; header = q .header; long = omega arith; text = rw m (q .text); room = omega arith })
+
+  seal-short : (t out : List ℕ) → Sealable u t out → length (u .nonce) ≤ 15
+  unfolding sealOutcome
+  seal-short t out done = seal-passed (u .cipher) (u .steps) (length (u .key)) (length (u .nonce)) (length (u .header)) (length t) (length out) done .short
+
+  image-made : (t out : List ℕ) → Sealable u t out
+      → (sealAnswer (u .cipher) (u .steps) (u .key) (u .nonce) (u .header) t out ≡ Sealed (length t + 16) (length (calls (u .nonce) (u .header) t)))
+      × (sealBuffer (u .cipher) (u .steps) (u .key) (u .nonce) (u .header) t out ≡ image u t ++ drop (length t + 16) out)
+  unfolding sealAnswer sealBuffer
+  image-made t out done = (
+    ap (λ (a : Answer). sealReport a (length t + 16) (length (calls (u .nonce) (u .header) t))) done,
+    ap (λ (a : Answer). written a (image u t) out) done ∙ ap (λ (n : ℕ). image u t ++ drop n out) (image-long (seal-short t out done) t),
+  )
+
+pub demand2 : Demand2
+demand2 u bk bn =
+    record {
+      made = image-made u bk bn;
+      answered = answers u bk bn;
+      exact = λ s out t bs op. (accepted-image u bk bn s out op t bs, λ i. image-accepted u bk bn s out op t (i .0) (i .1));
+      one = λ s out t₁ t₂ op b₁ b₂ q₁ q₂. image-one u bk bn (p u bk bn s out op .key) (p u bk bn s out op .short) t₁ t₂ b₁ b₂ (q₁ ∙ sym q₂);
+      back = λ t out room bt done h. image-accepted u bk bn (image u t) room (image-openable u bk bn t out room done h) t bt refl;
+    }

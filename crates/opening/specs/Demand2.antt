@@ -1,0 +1,68 @@
+-- Demand 2, as a statement over the definitions in the contracts of `seal` and `open`; proofs/Demand2 proves it. "Sealing gives
+-- exactly the ciphertext and tag of the CAESAR version 1 definition with [the scope's] rules. Opening, where refusals 1 to 7 don't
+-- apply, accepts exactly when the sealed bytes are the image of some text under that suite, key, nonce and header, and gives that
+-- one text." What the definition of sealing is, crates/calls/specs say.
+use mathlib.Core.Path.{_≡_}
+use mathlib.Core.Logic.{_↔_, _⊎_}
+use mathlib.Core.List.{List, _++_}
+use Prim.Native.Nat.{ℕ, _+_, _≤_}
+use lib.ListN.{length, drop}
+use Rattle.bits.specs.Bytes.{Bytes}
+use Rattle.calls.specs.Calls.{calls}
+use Rattle.suites.specs.declared.refusal.Answer.the-variants.{Done}
+use Rattle.suites.specs.declared.refusal.Refusal.the-variants.{TagDiffers}
+use Rattle.limits.specs.Tests.{openTests}
+use Rattle.opening.specs.Open.{openAnswer, openBuffer}
+use Rattle.sealing.specs.Seal.{sealed, sealOutcome, sealAnswer, sealBuffer}
+use Rattle.opening.specs.declared.open.OpenAnswer.the-variants.{Opened, Refused as OpenRefused}
+use Rattle.sealing.specs.declared.seal.SealAnswer.the-variants.{Sealed}
+
+-- a suite, a key, a nonce and a header
+pub record Context : Type 0 where
+  pub cipher : ℕ
+  pub steps : ℕ
+  pub key : List ℕ
+  pub nonce : List ℕ
+  pub header : List ℕ
+
+-- the sealed bytes of a text
+abbrev pub image : Context → List ℕ → List ℕ
+image u t = sealed (u .cipher) (u .steps) (u .key) (u .nonce) (u .header) t
+
+-- sealing a text t into an output is not refused
+abbrev pub Sealable : Context → List ℕ → List ℕ → Type 0
+Sealable u t out = sealOutcome (u .cipher) (u .steps) (u .key) (u .nonce) (u .header) t out ≡ Done
+
+-- refusals 1 to 7 don't apply to opening sealed bytes s into an output
+abbrev pub Openable : Context → List ℕ → List ℕ → Type 0
+Openable u s out = openTests (u .cipher) (u .steps) (length (u .key)) (length (u .nonce)) (length (u .header)) (length s) (length out) ≡ Done
+
+-- opening accepts the text t: it answers its length, and leaves it at the output's start
+abbrev pub Accepts : Context → List ℕ → List ℕ → List ℕ → Type 0
+Accepts u s out t =
+    (openAnswer (u .cipher) (u .steps) (u .key) (u .nonce) (u .header) s out ≡ Opened (length t))
+    × (openBuffer (u .cipher) (u .steps) (u .key) (u .nonce) (u .header) s out ≡ t ++ drop (length t) out)
+
+-- opening refuses with 8, and leaves the output as it was
+abbrev pub Differs : Context → List ℕ → List ℕ → Type 0
+Differs u s out =
+    (openAnswer (u .cipher) (u .steps) (u .key) (u .nonce) (u .header) s out ≡ OpenRefused TagDiffers)
+    × (openBuffer (u .cipher) (u .steps) (u .key) (u .nonce) (u .header) s out ≡ out)
+
+pub record Holds (u : Context) : Type 0 where
+  -- sealing leaves the image of the text at the output's start; it answers its length, and the call list's
+  pub made : (t out : List ℕ) → Sealable u t out
+      → (sealAnswer (u .cipher) (u .steps) (u .key) (u .nonce) (u .header) t out ≡ Sealed (length t + 16) (length (calls (u .nonce) (u .header) t)))
+      × (sealBuffer (u .cipher) (u .steps) (u .key) (u .nonce) (u .header) t out ≡ image u t ++ drop (length t + 16) out)
+  -- opening accepts a text, or refuses with 8: there is no third answer
+  pub answered : (s out : List ℕ) → Openable u s out → ((t : List ℕ) × Accepts u s out t) ⊎ Differs u s out
+  -- it accepts a text if and only if sealing that text gives those sealed bytes
+  pub exact : (s out t : List ℕ) → Bytes s → Openable u s out → Accepts u s out t ↔ (Bytes t × (image u t ≡ s))
+  -- at most one text does
+  pub one : (s out t₁ t₂ : List ℕ) → Openable u s out → Bytes t₁ → Bytes t₂ → image u t₁ ≡ s → image u t₂ ≡ s → t₁ ≡ t₂
+  -- open after seal gives the text back
+  pub back : (t out room : List ℕ) → Bytes t → Sealable u t out → length t ≤ length room → Accepts u (image u t) room t
+
+-- for every suite, listed or not, every header, and every key and nonce of bytes
+abbrev pub Demand2 : Type 0
+Demand2 = (u : Context) → Bytes (u .key) → Bytes (u .nonce) → Holds u

@@ -1,3 +1,0 @@
-pub mod Answers
-pub mod Demand2
-pub mod Opened

@@ -1,2 +1,0 @@
-// Opening what was sealed, and demand 2.
-pub mod open;

@@ -1,0 +1,3 @@
+pub mod Windows
+pub mod Apart
+pub mod Answers
