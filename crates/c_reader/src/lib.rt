@@ -1,7 +1,7 @@
 // The functions for C that read a book, as include/sealed_book.h declares them.
+use checker::check::CheckAnswer;
 use fetch::unit::FetchAnswer;
 use fetch::unit::PlacedAnswer;
-use checker::check::CheckAnswer;
 ghost use mathlib.Core.Path.{_≡_};
 ghost use Rattle.checker.specs.Check.{checkAnswer};
 ghost use Rattle.walk.specs.Ciphertext.{ciphertextPlace};

@@ -1,7 +1,7 @@
 // The functions for C that seal and open, as include/sealed_book.h declares them.
+use opening::open::OpenAnswer;
 use sealing::seal::SealAnswer;
 use suites::suite::Suite;
-use opening::open::OpenAnswer;
 ghost use mathlib.Core.Path.{_≡_};
 ghost use Rattle.opening.specs.Open.{openAnswer, openBuffer};
 ghost use Rattle.sealing.specs.Seal.{sealAnswer, sealBuffer};

@@ -1,6 +1,6 @@
 // Checks the book at standard input, behind the 16 bytes of its key, and writes one line: `ok units=1 calls=7`, `refused 8`, or `too long`.
-use libc::STDIN_FILENO;
 use checker::check::CheckAnswer;
+use libc::STDIN_FILENO;
 use suites::refusal::Refusal;
 ghost use mathlib.Core.Path.{_≡_};
 ghost use Rattle.check_book.specs.Line.{checkedLine, lineOf};

@@ -1,9 +1,9 @@
 // The seal of one frame of a book: of a unit, and of the close. Functions with a precondition serve our own crates, which have read the frame.
 use kinds::Kind;
-use verifying::verify::VerifyAnswer;
 use parser::frame::Frame;
 use suites::refusal::Answer;
 use suites::refusal::Refusal;
+use verifying::verify::VerifyAnswer;
 ghost use mathlib.Core.List.{_++_};
 ghost use mathlib.Core.Path.{_≡_};
 ghost use Prim.Native.Nat.{_+_, _-_, _*_, _≤_};

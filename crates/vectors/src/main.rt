@@ -1,10 +1,10 @@
 // Runs the cases that another implementation made and writes what comes out. The file `stdout` beside this folder is made from the
 // same cases by tests/expected.
-use verifying::verify::VerifyAnswer;
 use checker::check::CheckAnswer;
+use opening::open::OpenAnswer;
 use sealing::seal::SealAnswer;
 use suites::suite::Suite;
-use opening::open::OpenAnswer;
+use verifying::verify::VerifyAnswer;
 ghost use mathlib.Core.Path.{_≡_};
 ghost use Prim.Native.Nat.{_<_, _≤_};
 ghost use lib.ListN.{length};
