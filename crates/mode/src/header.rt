@@ -42,7 +42,7 @@ fn inner(suite: Suite, key: [u8; 16], nonce: &[u8], header: &[u8], n: usize) -> 
     let mut sum = [0u8; 16];
     let mut done: usize = 0;
     while done < n {
-        let k = text_blocks::few(n - done);
+        let k = text_blocks::up_to_64(n - done);
         let at = 16 * done;
         let next = chunk(
             suite,

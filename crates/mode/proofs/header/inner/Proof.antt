@@ -33,7 +33,7 @@ loop-again c =
     let a = h .before .before .before .args in (
       omega arith,
       c .chunk .ensures
-          ∙ sum-chunk (λ i. enciphers (a .suite) (a .key) (headerTweak (a .nonce .now) i)) (a .header .now) (h .loop .sum) (h .loop .done) (c .before .before .few .result) (h .loop .inv .1),
+          ∙ sum-chunk (λ i. enciphers (a .suite) (a .key) (headerTweak (a .nonce .now) i)) (a .header .now) (h .loop .sum) (h .loop .done) (c .before .before .up-to-64 .result) (h .loop .inv .1),
     )
 
 returns : tie.Need-returns Inv-loop μ-loop
