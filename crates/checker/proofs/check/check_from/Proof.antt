@@ -109,8 +109,8 @@ loop-again c =
       omega (arith, c .unit-calls .ensures .short),
     )
 
-pub check_from-spec : {M : Type 1} → statement M
-check_from-spec =
+pub check-from-spec : {M : Type 1} → statement M
+check-from-spec =
     tie.close
     (tie.spec
     Inv-loop
