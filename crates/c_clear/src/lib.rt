@@ -5,14 +5,15 @@ ghost use mathlib.Core.Path.{_≡_};
 ghost use Rattle.returned.specs.Returned.{returned};
 ghost use Rattle.parser.specs.Opening.{openingNumber, openingSuite, openingTests};
 ghost use Rattle.walk.specs.Clear.{placedClear, unitClear};
-ghost use Rattle.c_clear.specs.Told.{told, lent, lentAfter};
+ghost use Rattle.suites.specs.Told.{byAnswer};
+ghost use Rattle.c_clear.specs.Lent.{lent, lentAfter};
 
 #[no_mangle]
 pub extern "C" fn sb_info(book: &[u8], cipher: &mut u8, steps: &mut u8, number: &mut u64) -> u32
     ensures { λ r. ⌜ (r ≡ returned (openingTests (now (book .entry))))
-        × (now (cipher .exit) ≡ told (openingTests (now (book .entry))) (openingSuite (now (book .entry)) .cipher) (now (cipher .entry)))
-        × (now (steps .exit) ≡ told (openingTests (now (book .entry))) (openingSuite (now (book .entry)) .steps) (now (steps .entry)))
-        × (now (number .exit) ≡ told (openingTests (now (book .entry))) (openingNumber (now (book .entry))) (now (number .entry))) ⌝ }
+        × (now (cipher .exit) ≡ byAnswer (openingTests (now (book .entry))) (openingSuite (now (book .entry)) .cipher) (now (cipher .entry)))
+        × (now (steps .exit) ≡ byAnswer (openingTests (now (book .entry))) (openingSuite (now (book .entry)) .steps) (now (steps .entry)))
+        × (now (number .exit) ≡ byAnswer (openingTests (now (book .entry))) (openingNumber (now (book .entry))) (now (number .entry))) ⌝ }
 {
     let tested = parser::opening::tests(book);
     match tested {
@@ -29,7 +30,7 @@ pub extern "C" fn sb_info(book: &[u8], cipher: &mut u8, steps: &mut u8, number: 
 
 // Where the unit begins, put where C lent it.
 fn place(c: Clear, at: &mut u64)
-    ensures { λ r. ⌜ now (at .exit) ≡ told (c .answer) (c .at) (now (at .entry)) ⌝ }
+    ensures { λ r. ⌜ now (at .exit) ≡ byAnswer (c .answer) (c .at) (now (at .entry)) ⌝ }
 {
     let answer = c.answer;
     match answer {
@@ -117,7 +118,7 @@ pub extern "C" fn sb_unit(
     next: &mut u64,
 ) -> u32
     ensures { λ r. ⌜ (r ≡ returned (unitClear k (now (book .entry)) .answer))
-        × (now (at .exit) ≡ told (unitClear k (now (book .entry)) .answer) (unitClear k (now (book .entry)) .at) (now (at .entry)))
+        × (now (at .exit) ≡ byAnswer (unitClear k (now (book .entry)) .answer) (unitClear k (now (book .entry)) .at) (now (at .entry)))
         × (lent (now (from .exit)) (now (fromlen .exit)) (now (to .exit)) (now (tolen .exit))
         (now (start .exit)) (now (len .exit)) (now (next .exit))
         ≡ lentAfter (unitClear k (now (book .entry)))

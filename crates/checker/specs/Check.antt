@@ -1,11 +1,13 @@
 -- What `check` answers. "Checking takes key and book, writes nothing, returns unit count and call total. It reads in byte order." In the
 -- definitions of a frame, o are the bytes of the book's opening fields, n is the running number and s the bytes of the book from the place on.
-use mathlib.Core.List.{List}
+use mathlib.Core.List.{List, [], _∷_}
 use Prim.Native.Nat.{ℕ, zero, suc, _+_}
 use lib.ListN.{length}
 use Rattle.suites.specs.declared.refusal.Answer.{Answer}
 use Rattle.suites.specs.declared.refusal.Answer.the-variants.{Done, Refused}
 use Rattle.suites.specs.declared.refusal.Refusal.the-variants.{TooManyUnits}
+use Rattle.suites.specs.Refusal.{number}
+use Rattle.suites.specs.Told.{Told, gives, refuses}
 use Rattle.fields.specs.Kind.{Kind}
 use Rattle.kinds.specs.Kind.{kindOf, bookKind}
 use Rattle.kinds.specs.Lengths.{unitCalls, closeCalls}
@@ -16,6 +18,11 @@ use Rattle.parser.specs.Opening.{openingBytes, afterOpening, checkTests}
 use Rattle.seals.specs.Seal.{unitSealTests, closeSealTests}
 use Rattle.checker.specs.declared.check.CheckAnswer.{CheckAnswer}
 use Rattle.checker.specs.declared.check.CheckAnswer.the-variants.{Accepted, Refused as CheckRefused}
+
+-- "returns unit count and call total"
+abbrev pub checkTold : CheckAnswer → Told
+checkTold (Accepted n t) = gives (n ∷ t ∷ [])
+checkTold (CheckRefused why) = refuses (number why)
 
 -- a frame whose seal was tested too, or the refusal
 abbrev pub withSeal : Frame → (ℕ → Answer) → Answer → Frame

@@ -2,13 +2,15 @@
 -- target to the output, returns s and t." "Fetch: the same [as check], without 8 and 12 for units before k, then 7." In the definitions of a
 -- frame, o are the bytes of the book's opening fields, n is the running number, s the bytes of the book from the place on, and r the room
 -- in the output.
-use mathlib.Core.List.{List, [], _++_}
+use mathlib.Core.List.{List, [], _∷_, _++_}
 use Prim.Native.Nat.{ℕ, _+_}
 use lib.Dec.{leb}
 use lib.ListN.{length, drop}
 use Rattle.suites.specs.declared.refusal.Answer.{Answer}
 use Rattle.suites.specs.declared.refusal.Answer.the-variants.{Done, Refused}
 use Rattle.suites.specs.declared.refusal.Refusal.the-variants.{OutputTooShort, SegmentLength, NoSuchUnit}
+use Rattle.suites.specs.Refusal.{number}
+use Rattle.suites.specs.Told.{Told, gives, refuses}
 use Rattle.limits.specs.Tests.{unless}
 use Rattle.sealing.specs.Seal.{written}
 use Rattle.fields.specs.Kind.{Kind}
@@ -89,6 +91,10 @@ abbrev pub fetchReport : Answer → List ℕ → FetchAnswer
 fetchReport Done text = Fetched (length (sourceOf text)) (length (targetOf text))
 fetchReport (Refused why) text = FetchRefused why
 
+abbrev pub fetchTold : FetchAnswer → Told
+fetchTold (Fetched s t) = gives (s ∷ t ∷ [])
+fetchTold (FetchRefused why) = refuses (number why)
+
 unfoldable pub fetchAnswerOf : Kind → List ℕ → List ℕ → ℕ → List ℕ → FetchAnswer
 fetchAnswerOf kind key s k out = fetchReport (fetchOutcome kind key s k (length out)) (fetchText kind key s k)
 
@@ -120,6 +126,10 @@ nextOf kind at (FrameRefused why) = 0
 abbrev pub placedReport : Answer → List ℕ → ℕ → PlacedAnswer
 placedReport Done text next = PlacedFetched (length (sourceOf text)) (length (targetOf text)) next
 placedReport (Refused why) text next = PlacedRefused why
+
+abbrev pub placedTold : PlacedAnswer → Told
+placedTold (PlacedFetched s t next) = gives (s ∷ t ∷ next ∷ [])
+placedTold (PlacedRefused why) = refuses (number why)
 
 unfoldable pub placedAnswerOf : Kind → List ℕ → List ℕ → ℕ → ℕ → List ℕ → PlacedAnswer
 placedAnswerOf kind key s n at out =

@@ -1,13 +1,15 @@
 -- What `open` answers, and what it leaves in the output.
 use mathlib.Core.Bool.{Bool}
-use mathlib.Core.List.{List}
+use mathlib.Core.List.{List, [], _∷_}
 use Prim.Native.Nat.{ℕ, _-_}
 use lib.ListN.{length, take, drop}
 use Rattle.calls.specs.Sealing.{opening, openingTag}
 use Rattle.suites.specs.declared.refusal.Answer.{Answer}
 use Rattle.suites.specs.declared.refusal.Answer.the-variants.{Done, Refused}
 use Rattle.suites.specs.declared.refusal.Refusal.the-variants.{TagDiffers}
+use Rattle.suites.specs.Refusal.{number}
 use Rattle.suites.specs.Suite.{cipherOf}
+use Rattle.suites.specs.Told.{Told, gives, refuses}
 use Rattle.limits.specs.Tests.{unless, openTests}
 use Rattle.bits.specs.Bytes.{sameBytes}
 use Rattle.rounds.specs.Cipher.{encipher, decipher}
@@ -43,6 +45,10 @@ openOutcome cipher steps key nonce header s out =
 abbrev pub openReport : Answer → ℕ → OpenAnswer
 openReport Done len = Opened len
 openReport (Refused why) len = OpenRefused why
+
+abbrev pub openTold : OpenAnswer → Told
+openTold (Opened len) = gives (len ∷ [])
+openTold (OpenRefused why) = refuses (number why)
 
 unfoldable pub openAnswer : ℕ → ℕ → List ℕ → List ℕ → List ℕ → List ℕ → List ℕ → OpenAnswer
 openAnswer cipher steps key nonce header s out = openReport (openOutcome cipher steps key nonce header s out) (length s - 16)

@@ -1,12 +1,14 @@
 -- What `seal` answers, and what it leaves in the output.
-use mathlib.Core.List.{List, _++_}
+use mathlib.Core.List.{List, [], _∷_, _++_}
 use Prim.Native.Nat.{ℕ, _+_}
 use lib.ListN.{length, take, drop}
 use Rattle.calls.specs.Calls.{calls}
 use Rattle.calls.specs.Sealing.{sealing}
 use Rattle.suites.specs.declared.refusal.Answer.{Answer}
 use Rattle.suites.specs.declared.refusal.Answer.the-variants.{Done, Refused}
+use Rattle.suites.specs.Refusal.{number}
 use Rattle.suites.specs.Suite.{cipherOf}
+use Rattle.suites.specs.Told.{Told, gives, refuses}
 use Rattle.limits.specs.Tests.{sealTests}
 use Rattle.rounds.specs.Cipher.{encipher}
 use Rattle.sealing.specs.declared.seal.SealAnswer.{SealAnswer}
@@ -26,6 +28,10 @@ written (Refused why) result out = out
 abbrev pub sealReport : Answer → ℕ → ℕ → SealAnswer
 sealReport Done len count = Sealed len count
 sealReport (Refused why) len count = SealRefused why
+
+abbrev pub sealTold : SealAnswer → Told
+sealTold (Sealed len count) = gives (len ∷ count ∷ [])
+sealTold (SealRefused why) = refuses (number why)
 
 -- "Seal: 1, 2, 3, 4, 6, 7."
 unfoldable pub sealOutcome : ℕ → ℕ → List ℕ → List ℕ → List ℕ → List ℕ → List ℕ → Answer

@@ -21,7 +21,8 @@ use Rattle.fields.proofs.Details.{length-detailsOf}
 use Rattle.fields.proofs.Each.{eachFrom-append}
 use Rattle.format.proofs.Lengths.{length-openingFields, range-told, unitsBytes-append, unitSealings-append, length-cipherCalls, callTotal-append}
 use Rattle.format.proofs.Apart.{book-apart}
-use Rattle.writer.specs.Writer.{putAt, byAnswer, startWriter, startBuffer, newWriter, noWriter, addOutcome}
+use Rattle.suites.specs.Told.{byAnswer}
+use Rattle.writer.specs.Writer.{putAt, startWriter, startBuffer, newWriter, noWriter, addOutcome}
 use Rattle.writer.specs.History.{
   Call,
   add,

@@ -9,7 +9,8 @@ use Rattle.suites.specs.declared.refusal.Refusal.the-variants.{WriterInvalid, W
 use Rattle.limits.specs.Tests.{unless}
 use Rattle.fields.specs.Kind.{Kind}
 use Rattle.writer.specs.declared.Writer.{Writer}
-use Rattle.writer.specs.Writer.{byAnswer, valid, writerTests}
+use Rattle.suites.specs.Told.{byAnswer}
+use Rattle.writer.specs.Writer.{valid, writerTests}
 
 -- a test that is true leaves the answer to those after it, and one that is false refuses
 pub passes : (ok : Bool) (why : Refusal) (rest : Answer) → ok ≡ true → unless ok why rest ≡ rest

@@ -13,7 +13,8 @@ use Rattle.fields.specs.Kind.{Kind}
 use Rattle.format.specs.Sealings.{Sealing, closeSealing, unitSealings}
 use Rattle.fields.specs.Unit.{BookUnit, Given}
 use Rattle.writer.specs.declared.Writer.{Writer}
-use Rattle.writer.specs.Writer.{byAnswer, startOutcome, startWriter, startBuffer, addOutcome, addWriter, addBuffer, closeOutcome, closeWriter, closeBuffer}
+use Rattle.suites.specs.Told.{byAnswer}
+use Rattle.writer.specs.Writer.{startOutcome, startWriter, startBuffer, addOutcome, addWriter, addBuffer, closeOutcome, closeWriter, closeBuffer}
 
 -- an add of a unit, or a close
 pub data Call : Type 0 where

@@ -7,7 +7,7 @@ use Prim.Native.Nat.{ℕ, _+_, _*_}
 use lib.Dec.{eqb, leb, ltb}
 use lib.ListN.{length, take, drop, replicate}
 use Rattle.suites.specs.declared.refusal.Answer.{Answer}
-use Rattle.suites.specs.declared.refusal.Answer.the-variants.{Done, Refused}
+use Rattle.suites.specs.declared.refusal.Answer.the-variants.{Done}
 use Rattle.suites.specs.declared.refusal.Refusal.the-variants.{
   SuiteNotListed,
   KeyLength,
@@ -20,6 +20,7 @@ use Rattle.suites.specs.declared.refusal.Refusal.the-variants.{
 }
 use Rattle.suites.specs.declared.suite.Suite.{Suite}
 use Rattle.suites.specs.Suite.{listed}
+use Rattle.suites.specs.Told.{byAnswer}
 use Rattle.limits.specs.Tests.{unless}
 use Rattle.fields.specs.Kind.{Kind}
 use Rattle.fields.specs.Languages.{pairAllowed}
@@ -32,11 +33,6 @@ use Rattle.writer.specs.declared.Writer.{Writer}
 -- bytes written at a place of the buffer; "other bytes stay"
 abbrev pub putAt : ℕ → List ℕ → List ℕ → List ℕ
 putAt place bytes buf = take place buf ++ (bytes ++ drop (place + length bytes) buf)
-
--- after an accepted call the one, after a refused one the other
-abbrev pub byAnswer : {A : Type 0} → Answer → A → A → A
-byAnswer Done new old = new
-byAnswer (Refused why) new old = old
 
 -- "Start: 1, 2, 7", under a key of k bytes and with a buffer of room bytes
 unfoldable pub startOutcome : Suite → ℕ → ℕ → Answer

@@ -4,7 +4,7 @@ use borrow.Author.Needs.{needs}
 use Rattle.suites.specs.declared.suite.Suite.{Suite}
 use Rattle.parser.specs.Opening.{openingNumber, openingSuite}
 use Rattle.returned.specs.Returned.{returned}
-use Rattle.c_clear.specs.Told.{told}
+use Rattle.suites.specs.Told.{byAnswer}
 use Rattle.c_clear.proofs.sb_info.Statement.{statement}
 use Rattle.c_clear.proofs.sb_info.Tie as tie
 
@@ -15,9 +15,9 @@ returns c =
     let s = a .book .now in
     let e = sym (c .before .before .tested .given .1) ∙ t .tests .ensures in (
       c .number .ensures ∙ ap returned e,
-      ap (λ v. told v (openingSuite s .cipher) (a .cipher .now)) e,
-      ap (λ v. told v (openingSuite s .steps) (a .steps .now)) e,
-      ap (λ v. told v (openingNumber s) (a .number .now)) e,
+      ap (λ v. byAnswer v (openingSuite s .cipher) (a .cipher .now)) e,
+      ap (λ v. byAnswer v (openingSuite s .steps) (a .steps .now)) e,
+      ap (λ v. byAnswer v (openingNumber s) (a .number .now)) e,
     )
 
 returns-2 : tie.Need-returns-2
@@ -29,9 +29,9 @@ returns-2 c =
     let s = a .book .now in
     let e = sym (g .enum-told .given .1) ∙ t .tests .ensures in (
       ap returned e,
-      ap (λ (f : Suite). f .cipher) (u .suite .ensures) ∙ ap (λ v. told v (openingSuite s .cipher) (a .cipher .now)) e,
-      ap (λ (f : Suite). f .steps) (u .suite .ensures) ∙ ap (λ v. told v (openingSuite s .steps) (a .steps .now)) e,
-      c .number2 .ensures ∙ ap (λ v. told v (openingNumber s) (a .number .now)) e,
+      ap (λ (f : Suite). f .cipher) (u .suite .ensures) ∙ ap (λ v. byAnswer v (openingSuite s .cipher) (a .cipher .now)) e,
+      ap (λ (f : Suite). f .steps) (u .suite .ensures) ∙ ap (λ v. byAnswer v (openingSuite s .steps) (a .steps .now)) e,
+      c .number2 .ensures ∙ ap (λ v. byAnswer v (openingNumber s) (a .number .now)) e,
     )
 
 pub sb-info-spec : {M : Type 1} → statement M

@@ -3,7 +3,8 @@ use mathlib.Core.Path.{ap, _∙_}
 use borrow.Author.Needs.{needs}
 use Rattle.walk.specs.declared.clear.Clear.{Clear}
 use Rattle.returned.specs.Returned.{returned}
-use Rattle.c_clear.specs.Told.{told, lent, lentAfter}
+use Rattle.suites.specs.Told.{byAnswer}
+use Rattle.c_clear.specs.Lent.{lent, lentAfter}
 use Rattle.c_clear.proofs.sb_unit.Statement.{statement}
 use Rattle.c_clear.proofs.sb_unit.Tie as tie
 
@@ -13,7 +14,7 @@ returns c =
     let u = p .before .before in
     let a = u .before .before .args in (
       c .put .ensures .0 ∙ ap (λ (r : Clear). returned (r .answer)) (u .unit .ensures),
-      p .place .ensures ∙ ap (λ (r : Clear). told (r .answer) (r .at) (a .at .now)) (u .unit .ensures),
+      p .place .ensures ∙ ap (λ (r : Clear). byAnswer (r .answer) (r .at) (a .at .now)) (u .unit .ensures),
       c .put .ensures .1 ∙ ap (λ (r : Clear). lentAfter r (lent (a .from .now) (a .fromlen .now) (a .to .now) (a .tolen .now) (a .start .now) (a .len .now) (a .next .now))) (u .unit .ensures),
     )
 

@@ -3,7 +3,7 @@ use mathlib.Core.Path.{ap, _∙_}
 use borrow.Author.Needs.{needs}
 use Rattle.walk.specs.declared.clear.Clear.{Clear}
 use Rattle.returned.specs.Returned.{returned}
-use Rattle.c_clear.specs.Told.{lent, lentAfter}
+use Rattle.c_clear.specs.Lent.{lent, lentAfter}
 use Rattle.c_clear.proofs.sb_unit_at.Statement.{statement}
 use Rattle.c_clear.proofs.sb_unit_at.Tie as tie
 

@@ -14,7 +14,8 @@ use Rattle.fields.specs.Languages.{pairAllowed}
 use Rattle.kinds.specs.Lengths.{unitLength}
 use Rattle.fields.specs.Unit.{inRange}
 use Rattle.format.proofs.Lengths.{range-told}
-use Rattle.writer.specs.Writer.{byAnswer, writerTests, addTests}
+use Rattle.suites.specs.Told.{byAnswer}
+use Rattle.writer.specs.Writer.{writerTests, addTests}
 use Rattle.writer.proofs.Order.{passes, refuses, writer-first}
 use Rattle.writer.proofs.Passed.{Valid, writer-passed}
 use Rattle.writer.proofs.tests.add_tests.Statement.{statement}

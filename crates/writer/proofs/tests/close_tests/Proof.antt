@@ -11,7 +11,8 @@ use Rattle.suites.specs.declared.refusal.Refusal.the-variants.{OutputTooShort}
 use Rattle.limits.specs.Tests.{unless}
 use Rattle.kinds.specs.Kind.{kindOf}
 use Rattle.kinds.specs.Lengths.{closeLength}
-use Rattle.writer.specs.Writer.{byAnswer, writerTests, closeOutcome}
+use Rattle.suites.specs.Told.{byAnswer}
+use Rattle.writer.specs.Writer.{writerTests, closeOutcome}
 use Rattle.writer.proofs.Order.{passes, refuses, writer-first}
 use Rattle.writer.proofs.Passed.{Valid, writer-passed}
 use Rattle.writer.proofs.tests.close_tests.Statement.{statement}

@@ -1,14 +1,8 @@
 -- What the calls without a key leave in what C lends them.
 use mathlib.Core.List.{List}
 use Prim.Native.Nat.{ℕ}
-use Rattle.suites.specs.declared.refusal.Answer.{Answer}
-use Rattle.suites.specs.declared.refusal.Answer.the-variants.{Done, Refused}
+use Rattle.suites.specs.Told.{byAnswer}
 use Rattle.walk.specs.declared.clear.Clear.{Clear}
-
--- after a call that was done the one, after a refused one what was there
-abbrev pub told : {A : Type 0} → Answer → A → A → A
-told Done new old = new
-told (Refused why) new old = old
 
 -- what is lent for a unit: the codes with their lengths, the ciphertext's place and length, and the place of the next unit
 pub record Lent : Type 0 where
@@ -37,6 +31,6 @@ abbrev pub saidOf : Clear → Lent
 saidOf c =
     lent (c .from .bytes) (c .from .len) (c .to .bytes) (c .to .len) (c .ciphertext .at) (c .ciphertext .len) (c .next)
 
--- what is there after the call
+-- what is there after the call: that, or with a refusal what was there
 unfoldable pub lentAfter : Clear → Lent → Lent
-lentAfter c old = told (c .answer) (saidOf c) old
+lentAfter c old = byAnswer (c .answer) (saidOf c) old
