@@ -9,10 +9,10 @@ use Rattle.fields.specs.Kind.{Kind}
 use Rattle.format.specs.Layout.{unitBytes, closeBytes}
 use Rattle.format.specs.Sealings.{openingFields}
 use Rattle.fields.specs.Unit.{BookUnit}
+use Rattle.suites.specs.Told.{byAnswer}
 use Rattle.writer.specs.declared.Writer.{Writer}
 use Rattle.writer.specs.Writer.{
   putAt,
-  byAnswer,
   startOutcome,
   newWriter,
   noWriter,
