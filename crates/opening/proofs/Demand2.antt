@@ -2,10 +2,9 @@
 use mathlib.Core.Path.{_≡_, refl, sym, ap, _∙_}
 use mathlib.Core.Bool.{Bool, true, false, _&&_, false≢true}
 use mathlib.Core.Logic.{_⊎_, inl, inr}
-use mathlib.Core.List.{List, _++_}
+use mathlib.Core.List.{List, [], _∷_, _++_}
 use Prim.Native.Nat.{ℕ, zero, suc, _+_, _-_, _≤_, _<_}
 use native.Mathlib.Decide.{ℕ-discrete}
-use native.Mathlib.Nat.{suc-inj}
 use native.Mathlib.Omega.{arith}
 use borrow.Author.Tests.{eqb-true, eq-eqb}
 use lib.Dec.{eqb}
@@ -17,19 +16,19 @@ use Rattle.calls.specs.Pieces.{through, headerSum}
 use Rattle.calls.specs.Sealing.{openingTag}
 use Rattle.calls.proofs.ByBlocks.{openingTag-is, length-tagFrom, length-checksum, length-headerSum, length-sealing}
 use Rattle.calls.proofs.Exact.{open-exact, open-sealed}
-use Rattle.suites.specs.declared.refusal.Answer.the-variants.{Done}
+use Rattle.suites.specs.declared.refusal.Answer.the-variants.{Done, Refused}
 use Rattle.suites.specs.declared.refusal.Answer.{Answer}
 use Rattle.suites.specs.declared.suite.Suite.{Suite}
+use Rattle.suites.specs.Told.{Told, gives, told}
+use Rattle.suites.proofs.Numbers.{number-some, told-done}
+use Rattle.limits.specs.Tests.{openTests}
 use Rattle.limits.proofs.Passed.{Openable as Passing, seal-passed, open-passed, open-passes}
 use Rattle.bits.specs.Bytes.{sameBytes}
 use Rattle.text_blocks.specs.Under.{enciphers, deciphers}
 use Rattle.text_blocks.proofs.Chunks.{enciphers-blockwise, deciphers-blockwise}
-use Rattle.opening.specs.Demand2.{Context, image, Sealable, Openable, Accepts, Differs, Demand2}
-use Rattle.opening.specs.Open.{ciphertext, opened, agrees, thenTag, openReport, openAnswer, openBuffer}
-use Rattle.sealing.specs.Seal.{sealed, sealOutcome, sealReport, sealAnswer, sealBuffer, written}
-use Rattle.opening.specs.declared.open.OpenAnswer.{OpenAnswer}
-use Rattle.opening.specs.declared.open.OpenAnswer.the-variants.{Opened, Refused as OpenRefused}
-use Rattle.sealing.specs.declared.seal.SealAnswer.the-variants.{Sealed}
+use Rattle.opening.specs.Demand2.{Context, image, sealTells, sealLeaves, Sealable, Openable, Accepts, Differs, Demand2}
+use Rattle.opening.specs.Open.{ciphertext, opened, agrees, thenTag, openReport, openAnswer, openBuffer, openTold}
+use Rattle.sealing.specs.Seal.{sealed, sealOutcome, sealReport, sealAnswer, sealBuffer, sealTold, written}
 use Rattle.sealing.proofs.One.{inverse, sealed-one}
 use Rattle.opening.proofs.Answers.{open-done}
 use Rattle.opening.proofs.Opened.{opened-long}
@@ -58,10 +57,10 @@ same-refl : (n : ℕ) (x : List ℕ) → sameBytes n x x ≡ true
 same-refl zero x = refl
 same-refl (suc n) x = λ i. same-refl n x i && eq-eqb (getD x n 0) (getD x n 0) refl i
 
--- an accepted text's length, and one more; 0 for a refusal
-told : OpenAnswer → ℕ
-told (Opened n) = suc n
-told (OpenRefused why) = 0
+-- sealing that tells the number 0 was done
+seal-done : (a : Answer) (len count : ℕ) → sealTold (sealReport a len count) .number ≡ 0 → a ≡ Done
+seal-done Done len count e = refl
+seal-done (Refused why) len count e = absurd (omega (arith, number-some why))
 
 module _ (u : Context) (key-bytes : Bytes (u .key)) (nonce-bytes : Bytes (u .nonce)) where
   S : Suite
@@ -103,7 +102,10 @@ module _ (u : Context) (key-bytes : Bytes (u .key)) (nonce-bytes : Bytes (u .non
         same-equal 16 (openingTag e d (u .nonce) (u .header) (ciphertext s)) (drop (length s - 16) s) (tag-long short (ciphertext s)) (length-drop (length s - 16) s ∙ omega arith) a in
         open-exact e d (enciphers-blockwise S (u .key)) (deciphers-blockwise S (u .key)) (inverse S (u .key) whole key-bytes) (u .nonce) short nonce-bytes (u .header) s t bs .0 (tag, q)
 
-  module _ (s out : List ℕ) (op : Openable u s out) where
+  module _ (s out : List ℕ) (openable : Openable u s out) where
+    op : openTests (u .cipher) (u .steps) (length (u .key)) (length (u .nonce)) (length (u .header)) (length s) (length out) ≡ Done
+    op = told-done (openTests (u .cipher) (u .steps) (length (u .key)) (length (u .nonce)) (length (u .header)) (length s) (length out)) openable
+
     A : Bool
     A = agrees (u .cipher) (u .steps) (u .key) (u .nonce) (u .header) s
 
@@ -128,21 +130,20 @@ module _ (u : Context) (key-bytes : Bytes (u .key)) (nonce-bytes : Bytes (u .non
 
     accepted : (t : List ℕ) → A ≡ true → text ≡ t → Accepts u s out t
     accepted t e q = (
-      sym (answer true e) ∙ ap Opened (sym text-long ∙ ap length q),
+      ap openTold (sym (answer true e)) ∙ ap (λ (n : ℕ). gives (n ∷ [])) (sym text-long ∙ ap length q),
       sym (buffer true e) ∙ ap (λ (l : List ℕ). l ++ drop (length l) out) q,
     )
 
     agreed : (t : List ℕ) → Accepts u s out t → (A ≡ true) × (text ≡ t)
-    unfolding told
     agreed t (a, b) = by A refl
       where
         by : (v : Bool) → A ≡ v → (A ≡ true) × (text ≡ t)
         by true e =
-            let n : length s - 16 ≡ length t = suc-inj (ap told (answer true e ∙ a)) in
+            let n : length s - 16 ≡ length t = ap (λ (r : Told). getD (r .values) 0 0) (ap openTold (answer true e) ∙ a) in
             let both : text ++ drop (length text) out ≡ t ++ drop (length t) out = buffer true e ∙ b in
             (e, sym (take-at text (drop (length text) out) (length t) (text-long ∙ n)) ∙ ap (take (length t)) both ∙ take-at t (drop (length t) out) (length t) refl)
         by false e =
-            let z : 0 ≡ suc (length t) = ap told (answer false e ∙ a) in
+            let z : _≡_ {A = ℕ} 8 0 = ap (λ (r : Told). r .number) (ap openTold (answer false e) ∙ a) in
             absurd (omega arith)
 
     answers : ((t : List ℕ) × Accepts u s out t) ⊎ Differs u s out
@@ -150,7 +151,7 @@ module _ (u : Context) (key-bytes : Bytes (u .key)) (nonce-bytes : Bytes (u .non
       where
         by : (v : Bool) → A ≡ v → ((t : List ℕ) × Accepts u s out t) ⊎ Differs u s out
         by true e = inl (text, accepted text e refl)
-        by false e = inr (sym (answer false e), sym (buffer false e))
+        by false e = inr (ap openTold (sym (answer false e)), sym (buffer false e))
 
     image-accepted : (t : List ℕ) → Bytes t → image u t ≡ s → Accepts u s out t
     unfolding A text
@@ -160,28 +161,37 @@ module _ (u : Context) (key-bytes : Bytes (u .key)) (nonce-bytes : Bytes (u .non
     unfolding A text
     accepted-image t bs a = agrees-image s (p .key) (p .short) t (p .long) bs (agreed t a .0) (agreed t a .1)
 
+  sealable-done : (t out : List ℕ) → Sealable u t out → sealOutcome (u .cipher) (u .steps) (u .key) (u .nonce) (u .header) t out ≡ Done
+  unfolding sealAnswer
+  sealable-done t out =
+      seal-done (sealOutcome (u .cipher) (u .steps) (u .key) (u .nonce) (u .header) t out) (length t + 16) (length (calls (u .nonce) (u .header) t))
+
   -- what was sealed can be opened wherever there is room
   image-openable : (t out room : List ℕ) → Sealable u t out → length t ≤ length room → Openable u (image u t) room
   unfolding sealOutcome
-  image-openable t out room done h =
+  image-openable t out room sealable h =
+      let done = sealable-done t out sealable in
       let q = seal-passed (u .cipher) (u .steps) (length (u .key)) (length (u .nonce)) (length (u .header)) (length t) (length out) done in
       let l = image-long (q .short) t in
       let m : length (image u t) - 16 ≡ length t = omega arith in
-      open-passes (u .cipher) (u .steps) (length (u .key)) (length (u .nonce)) (length (u .header)) (length (image u t)) (length room)
-      (record { suite = q .suite; key = q .key; nonce = q .nonce; short = q .short; header = q .header; long = omega arith; text = rw m (q .text); room = omega arith })
+      ap (λ (a : Answer). told a .number)
+      (open-passes (u .cipher) (u .steps) (length (u .key)) (length (u .nonce)) (length (u .header)) (length (image u t)) (length room)
+      (record { suite = q .suite; key = q .key; nonce = q .nonce; short = q .short; header = q .header; long = omega arith; text = rw m (q .text); room = omega arith }))
 
   seal-short : (t out : List ℕ) → Sealable u t out → length (u .nonce) ≤ 15
   unfolding sealOutcome
-  seal-short t out done = seal-passed (u .cipher) (u .steps) (length (u .key)) (length (u .nonce)) (length (u .header)) (length t) (length out) done .short
+  seal-short t out sealable =
+      seal-passed (u .cipher) (u .steps) (length (u .key)) (length (u .nonce)) (length (u .header)) (length t) (length out) (sealable-done t out sealable) .short
 
   image-made : (t out : List ℕ) → Sealable u t out
-      → (sealAnswer (u .cipher) (u .steps) (u .key) (u .nonce) (u .header) t out ≡ Sealed (length t + 16) (length (calls (u .nonce) (u .header) t)))
-      × (sealBuffer (u .cipher) (u .steps) (u .key) (u .nonce) (u .header) t out ≡ image u t ++ drop (length t + 16) out)
+      → (sealTells u t out ≡ gives ((length t + 16) ∷ length (calls (u .nonce) (u .header) t) ∷ []))
+      × (sealLeaves u t out ≡ image u t ++ drop (length t + 16) out)
   unfolding sealAnswer sealBuffer
-  image-made t out done = (
-    ap (λ (a : Answer). sealReport a (length t + 16) (length (calls (u .nonce) (u .header) t))) done,
-    ap (λ (a : Answer). written a (image u t) out) done ∙ ap (λ (n : ℕ). image u t ++ drop n out) (image-long (seal-short t out done) t),
-  )
+  image-made t out sealable =
+      let done = sealable-done t out sealable in (
+        ap (λ (a : Answer). sealTold (sealReport a (length t + 16) (length (calls (u .nonce) (u .header) t)))) done,
+        ap (λ (a : Answer). written a (image u t) out) done ∙ ap (λ (n : ℕ). image u t ++ drop n out) (image-long (seal-short t out sealable) t),
+      )
 
 pub demand2 : Demand2
 demand2 u bk bn =

@@ -4,18 +4,15 @@
 -- one text." What the definition of sealing is, crates/calls/specs say.
 use mathlib.Core.Path.{_≡_}
 use mathlib.Core.Logic.{_↔_, _⊎_}
-use mathlib.Core.List.{List, _++_}
+use mathlib.Core.List.{List, [], _∷_, _++_}
 use Prim.Native.Nat.{ℕ, _+_, _≤_}
 use lib.ListN.{length, drop}
 use Rattle.bits.specs.Bytes.{Bytes}
 use Rattle.calls.specs.Calls.{calls}
-use Rattle.suites.specs.declared.refusal.Answer.the-variants.{Done}
-use Rattle.suites.specs.declared.refusal.Refusal.the-variants.{TagDiffers}
+use Rattle.suites.specs.Told.{Told, gives, refuses, told}
 use Rattle.limits.specs.Tests.{openTests}
-use Rattle.opening.specs.Open.{openAnswer, openBuffer}
-use Rattle.sealing.specs.Seal.{sealed, sealOutcome, sealAnswer, sealBuffer}
-use Rattle.opening.specs.declared.open.OpenAnswer.the-variants.{Opened, Refused as OpenRefused}
-use Rattle.sealing.specs.declared.seal.SealAnswer.the-variants.{Sealed}
+use Rattle.sealing.specs.Seal.{sealed, sealAnswer, sealBuffer, sealTold}
+use Rattle.opening.specs.Open.{openAnswer, openBuffer, openTold}
 
 -- a suite, a key, a nonce and a header
 pub record Context : Type 0 where
@@ -29,31 +26,42 @@ pub record Context : Type 0 where
 abbrev pub image : Context → List ℕ → List ℕ
 image u t = sealed (u .cipher) (u .steps) (u .key) (u .nonce) (u .header) t
 
--- sealing a text t into an output is not refused
+-- what sealing a text t into an output tells, and what it leaves there
+abbrev pub sealTells : Context → List ℕ → List ℕ → Told
+sealTells u t out = sealTold (sealAnswer (u .cipher) (u .steps) (u .key) (u .nonce) (u .header) t out)
+
+abbrev pub sealLeaves : Context → List ℕ → List ℕ → List ℕ
+sealLeaves u t out = sealBuffer (u .cipher) (u .steps) (u .key) (u .nonce) (u .header) t out
+
+-- what opening sealed bytes s into an output tells, and what it leaves there
+abbrev pub openTells : Context → List ℕ → List ℕ → Told
+openTells u s out = openTold (openAnswer (u .cipher) (u .steps) (u .key) (u .nonce) (u .header) s out)
+
+abbrev pub openLeaves : Context → List ℕ → List ℕ → List ℕ
+openLeaves u s out = openBuffer (u .cipher) (u .steps) (u .key) (u .nonce) (u .header) s out
+
+-- sealing is not refused
 abbrev pub Sealable : Context → List ℕ → List ℕ → Type 0
-Sealable u t out = sealOutcome (u .cipher) (u .steps) (u .key) (u .nonce) (u .header) t out ≡ Done
+Sealable u t out = sealTells u t out .number ≡ 0
 
--- refusals 1 to 7 don't apply to opening sealed bytes s into an output
+-- "where refusals 1 to 7 don't apply"
 abbrev pub Openable : Context → List ℕ → List ℕ → Type 0
-Openable u s out = openTests (u .cipher) (u .steps) (length (u .key)) (length (u .nonce)) (length (u .header)) (length s) (length out) ≡ Done
+Openable u s out =
+    told (openTests (u .cipher) (u .steps) (length (u .key)) (length (u .nonce)) (length (u .header)) (length s) (length out)) .number ≡ 0
 
--- opening accepts the text t: it answers its length, and leaves it at the output's start
+-- opening accepts the text t: it returns its length, and leaves it at the output's start
 abbrev pub Accepts : Context → List ℕ → List ℕ → List ℕ → Type 0
-Accepts u s out t =
-    (openAnswer (u .cipher) (u .steps) (u .key) (u .nonce) (u .header) s out ≡ Opened (length t))
-    × (openBuffer (u .cipher) (u .steps) (u .key) (u .nonce) (u .header) s out ≡ t ++ drop (length t) out)
+Accepts u s out t = (openTells u s out ≡ gives (length t ∷ [])) × (openLeaves u s out ≡ t ++ drop (length t) out)
 
 -- opening refuses with 8, and leaves the output as it was
 abbrev pub Differs : Context → List ℕ → List ℕ → Type 0
-Differs u s out =
-    (openAnswer (u .cipher) (u .steps) (u .key) (u .nonce) (u .header) s out ≡ OpenRefused TagDiffers)
-    × (openBuffer (u .cipher) (u .steps) (u .key) (u .nonce) (u .header) s out ≡ out)
+Differs u s out = (openTells u s out ≡ refuses 8) × (openLeaves u s out ≡ out)
 
 pub record Holds (u : Context) : Type 0 where
-  -- sealing leaves the image of the text at the output's start; it answers its length, and the call list's
+  -- sealing leaves the image of the text at the output's start; it returns its length, and the call list's
   pub made : (t out : List ℕ) → Sealable u t out
-      → (sealAnswer (u .cipher) (u .steps) (u .key) (u .nonce) (u .header) t out ≡ Sealed (length t + 16) (length (calls (u .nonce) (u .header) t)))
-      × (sealBuffer (u .cipher) (u .steps) (u .key) (u .nonce) (u .header) t out ≡ image u t ++ drop (length t + 16) out)
+      → (sealTells u t out ≡ gives ((length t + 16) ∷ length (calls (u .nonce) (u .header) t) ∷ []))
+      × (sealLeaves u t out ≡ image u t ++ drop (length t + 16) out)
   -- opening accepts a text, or refuses with 8: there is no third answer
   pub answered : (s out : List ℕ) → Openable u s out → ((t : List ℕ) × Accepts u s out t) ⊎ Differs u s out
   -- it accepts a text if and only if sealing that text gives those sealed bytes
