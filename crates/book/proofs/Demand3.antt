@@ -6,6 +6,8 @@ use Prim.Native.Nat.{ℕ}
 use native.Mathlib.Omega.{arith}
 use lib.ListN.{length}
 use Rattle.bits.specs.Bytes.{Bytes}
+use Rattle.suites.specs.declared.refusal.Answer.{Answer}
+use Rattle.suites.specs.Told.{told}
 use Rattle.fields.specs.Each.{Each, none, more, EachFrom, noneFrom, moreFrom}
 use Rattle.fields.specs.Kind.{Kind, WellFormed}
 use Rattle.kinds.specs.Kind.{kindOf, bookKind}
@@ -96,12 +98,13 @@ module _ (kind : Kind) (formed : WellFormed kind) where
         bufferBytes = bytes;
         numberFits = b .numberFits;
         accepted =
-            start-passes (i .suite) (length key) (length x)
+            ap (λ (a : Answer). told a .number)
+            (start-passes (i .suite) (length key) (length x)
             (record {
               listedSuite = b .listedSuite;
               key = b .keyLong;
               enough = omega (arith, length-unitsBytes kind (i .suite) key (i .number) 0 (i .units) (b .units));
-            });
+            }));
       } in
       let h : History kind = record { start = start; calls = writing (i .units); callable = each-append (adds-all (b .units)) (more closes none) } in
       let w = writer-half kind formed .writes start (i .units) (b .units) (b .few) (omega arith) in (

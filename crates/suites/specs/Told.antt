@@ -1,5 +1,6 @@
 -- An answer as the scope tells it: "When an answer is an enum, the promises use a definition that gives this paper's number and values for
 -- each case." Beside each type of answer stands the definition of its cases.
+use mathlib.Core.Bool.{Bool, true, false}
 use mathlib.Core.List.{List, []}
 use Prim.Native.Nat.{ℕ}
 use Rattle.suites.specs.declared.refusal.Answer.{Answer}
@@ -23,6 +24,11 @@ refuses n = record { number = n; values = [] }
 abbrev pub told : Answer → Told
 told Done = gives []
 told (Refused why) = refuses (number why)
+
+-- where a cause is due its number, else what follows
+abbrev pub due : Bool → ℕ → Told → Told
+due true n rest = refuses n
+due false n rest = rest
 
 -- after a call that was done the one, after a refused one the other
 abbrev pub byAnswer : {A : Type 0} → Answer → A → A → A

@@ -22,7 +22,8 @@ use Rattle.fields.proofs.Each.{eachFrom-append}
 use Rattle.format.proofs.Lengths.{length-openingFields, range-told, unitsBytes-append, unitSealings-append, length-cipherCalls, callTotal-append}
 use Rattle.format.proofs.Apart.{book-apart}
 use Rattle.suites.specs.Told.{byAnswer}
-use Rattle.writer.specs.Writer.{putAt, startWriter, startBuffer, newWriter, noWriter, addOutcome}
+use Rattle.suites.proofs.Numbers.{told-done}
+use Rattle.writer.specs.Writer.{putAt, startOutcome, startWriter, startBuffer, newWriter, noWriter, addOutcome}
 use Rattle.writer.specs.History.{
   Call,
   add,
@@ -42,9 +43,10 @@ use Rattle.writer.specs.History.{
   Start,
   started,
 }
-use Rattle.writer.specs.Left.{laidOut, sealedOf, Leaves, writing, WriterHalf}
+use Rattle.writer.specs.Left.{laidOut, sealedOf, answerTo, Leaves, writing, WriterHalf}
 use Rattle.writer.proofs.Brings.{bytesOf, brought, Brings, add-long, add-total, brings, refused}
-use Rattle.writer.proofs.Few.{unit-calls}
+use Rattle.writer.proofs.Few.{unit-calls, units-calls, close-total}
+use Rattle.writer.proofs.Answers.{answers-told}
 use Rattle.writer.proofs.Passed.{start-passed, Valid, add-passes, close-passes}
 use Rattle.writer.proofs.Put.{take-put, drop-put, length-put}
 
@@ -52,12 +54,15 @@ use Rattle.writer.proofs.Put.{take-put, drop-put, length-put}
 abbrev begun : Start → State
 begun s = record { writer = newWriter (s .suite) (s .key) (s .number); buffer = putAt 0 (openingFields (s .suite) (s .number)) (s .buffer) }
 
+start-done : (s : Start) → startOutcome (s .suite) (length (s .key)) (length (s .buffer)) ≡ Done
+start-done s = told-done (startOutcome (s .suite) (length (s .key)) (length (s .buffer))) (s .accepted)
+
 started-is : (s : Start) → started s ≡ begun s
 unfolding startWriter startBuffer
 started-is s =
     λ j. record {
-      writer = byAnswer (s .accepted j) (newWriter (s .suite) (s .key) (s .number)) noWriter;
-      buffer = byAnswer (s .accepted j) (putAt 0 (openingFields (s .suite) (s .number)) (s .buffer)) (s .buffer);
+      writer = byAnswer (start-done s j) (newWriter (s .suite) (s .key) (s .number)) noWriter;
+      buffer = byAnswer (start-done s j) (putAt 0 (openingFields (s .suite) (s .number)) (s .buffer)) (s .buffer);
     }
 
 module _ (kind : Kind) (s : Start) where
@@ -102,7 +107,7 @@ module _ (kind : Kind) (s : Start) where
   start-stands : Stands [] false [] (started s)
   unfolding sealedOf unitSealings callTotal
   start-stands =
-      let enough : 16 ≤ length (s .buffer) = start-passed (s .suite) (length (s .key)) (length (s .buffer)) (s .accepted) .enough in
+      let enough : 16 ≤ length (s .buffer) = start-passed (s .suite) (length (s .key)) (length (s .buffer)) (start-done s) .enough in
       let o : List ℕ = openingFields (s .suite) (s .number) in
       let long : length o ≡ 16 = length-openingFields (s .suite) (s .number) in
       let kept : length (putAt 0 o (s .buffer)) ≡ length (s .buffer) = length-put 0 16 o (s .buffer) long (omega arith) enough in
@@ -179,11 +184,38 @@ module _ (kind : Kind) (s : Start) where
   run-stands {us} {closed} {ss} {e} (c ∷ cs) (more k ks) i =
       rw (← append-assoc us, ← or-assoc closed, ← append-assoc ss) (run-stands cs ks (call-stands i c k))
 
+  -- the writer is valid
+  stands-valid : WellFormed kind → {us : List BookUnit} {closed : Bool} {ss : List Sealing} {e : State} → Stands us closed ss e
+      → Valid kind (e .writer) (length (e .buffer))
+  unfolding laidOut sealedOf
+  stands-valid formed {us} {closed} {ss} {e} i =
+      let p = start-passed (s .suite) (length (s .key)) (length (s .buffer)) (start-done s) in
+      let o = openingFields (s .suite) (s .number) in
+      let rest : List ℕ =
+      unitsBytes kind (s .suite) (s .key) (s .number) 0 us ++ cond closed (closeBytes kind (s .suite) (s .key) (s .number) (length us)) [] in
+      let shut : List Sealing = cond closed (closeSealing kind (s .suite) (s .number) (length us) ∷ []) [] in
+      let place : e .writer .place ≡ length (laidOut kind s us closed) =
+      sym (length-take-le (e .writer .place) (e .buffer) (i .within)) ∙ ap length (i .before) in
+      record {
+        listedSuite = rw (i .suite) (p .listedSuite);
+        begun = omega (arith, length-append o rest, length-openingFields (s .suite) (s .number));
+        within = i .within;
+        count = omega (arith, i .few);
+        total =
+            omega (
+              arith,
+              ap callTotal (i .sealed),
+              callTotal-append (unitSealings kind (s .suite) (s .number) 0 us) shut,
+              units-calls kind formed (s .suite) (s .number) 0 us (i .allowed),
+              close-total kind formed (s .suite) (s .number) (length us) closed,
+            );
+      }
+
   -- of a well-formed kind, this is what the statement asks
   stands-leaves : WellFormed kind → {us : List BookUnit} {closed : Bool} {ss : List Sealing} {e : State} → Stands us closed ss e → Leaves kind s us closed ss e
   unfolding sealedOf
   stands-leaves formed {us} {closed} {ss} {e} i =
-      let p = start-passed (s .suite) (length (s .key)) (length (s .buffer)) (s .accepted) in
+      let p = start-passed (s .suite) (length (s .key)) (length (s .buffer)) (start-done s) in
       record {
         before = i .before;
         place = sym (length-take-le (e .writer .place) (e .buffer) (i .within)) ∙ ap length (i .before);
@@ -194,6 +226,9 @@ module _ (kind : Kind) (s : Start) where
         number = i .number;
         closes = i .closes;
         count = i .count;
+        answers = λ c.
+            answers-told kind e (stands-valid formed i) c
+            ∙ (λ j. answerTo kind (i .closes j) (i .count j) (e .writer .place) (length (e .buffer)) c);
         bookable =
             record {
               listedSuite = p .listedSuite;
@@ -290,7 +325,7 @@ module _ (kind : Kind) (formed : WellFormed kind) where
 
   start-ready : (s : Start) (us : List BookUnit) → length us ≤ kind .unitLimit → bookLength kind us ≤ length (s .buffer) → Ready us (begun s)
   start-ready s us few enough =
-      let p = start-passed (s .suite) (length (s .key)) (length (s .buffer)) (s .accepted) in
+      let p = start-passed (s .suite) (length (s .key)) (length (s .buffer)) (start-done s) in
       let kept = length-put 0 16 (openingFields (s .suite) (s .number)) (s .buffer) (length-openingFields (s .suite) (s .number)) (omega arith) (p .enough) in
       record { listedSuite = p .listedSuite; begun = omega arith; enough = omega (arith, kept); few = omega arith; total = omega arith; unclosed = refl }
 

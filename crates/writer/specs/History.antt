@@ -7,13 +7,12 @@ use Prim.Native.Nat.{ℕ, _+_, _^_, _<_}
 use lib.ListN.{length}
 use Rattle.bits.specs.Bytes.{Bytes}
 use Rattle.suites.specs.declared.refusal.Answer.{Answer}
-use Rattle.suites.specs.declared.refusal.Answer.the-variants.{Done}
 use Rattle.suites.specs.declared.suite.Suite.{Suite}
 use Rattle.fields.specs.Kind.{Kind}
 use Rattle.format.specs.Sealings.{Sealing, closeSealing, unitSealings}
 use Rattle.fields.specs.Unit.{BookUnit, Given}
 use Rattle.writer.specs.declared.Writer.{Writer}
-use Rattle.suites.specs.Told.{byAnswer}
+use Rattle.suites.specs.Told.{told, byAnswer}
 use Rattle.writer.specs.Writer.{startOutcome, startWriter, startBuffer, addOutcome, addWriter, addBuffer, closeOutcome, closeWriter, closeBuffer}
 
 -- an add of a unit, or a close
@@ -84,7 +83,7 @@ pub record Start : Type 0 where
   pub keyBytes : Bytes key
   pub bufferBytes : Bytes buffer
   pub numberFits : number < 2 ^ 64
-  pub accepted : startOutcome suite (length key) (length buffer) ≡ Done
+  pub accepted : told (startOutcome suite (length key) (length buffer)) .number ≡ 0
 
 -- "The list begins with the writer and buffer that an accepted start leaves; its key is the one given to that start."
 abbrev pub started : Start → State

@@ -1,16 +1,33 @@
 -- The writer's half of demand 3, as a statement: what every list of calls leaves, refused ones included, and which books can be
 -- written. proofs/Left proves it for every kind that is well formed.
 use mathlib.Core.Path.{_≡_}
-use mathlib.Core.Bool.{Bool, true, cond}
+use mathlib.Core.Bool.{Bool, true, not, cond}
 use mathlib.Core.List.{List, [], _∷_, _++_, map, List·Nodup}
-use Prim.Native.Nat.{ℕ, _≤_}
+use Prim.Native.Nat.{ℕ, _+_, _≤_}
+use lib.Dec.{leb, ltb}
 use lib.ListN.{length, take, drop}
+use Rattle.suites.specs.Told.{Told, gives, due, told}
 use Rattle.fields.specs.Each.{Each, EachFrom}
 use Rattle.fields.specs.Kind.{Kind, WellFormed}
+use Rattle.fields.specs.Languages.{pairAllowed}
+use Rattle.kinds.specs.Lengths.{unitLength, closeLength}
 use Rattle.format.specs.Layout.{unitsBytes, closeBytes, bookLength, Bookable}
 use Rattle.format.specs.Sealings.{Sealing, openingFields, unitSealings, closeSealing, cipherCalls, callTotal}
-use Rattle.fields.specs.Unit.{BookUnit, Allowed}
-use Rattle.writer.specs.History.{Call, add, close, Callable, State, Start, started, afterCalls, units, hasClose, sealings}
+use Rattle.fields.specs.Unit.{BookUnit, Allowed, inRange}
+use Rattle.writer.specs.History.{
+  Call,
+  add,
+  close,
+  Callable,
+  State,
+  outcome,
+  Start,
+  started,
+  afterCalls,
+  units,
+  hasClose,
+  sealings,
+}
 
 -- "Before the writer's place stand fields 01 and 02, the unit of each accepted add in order, then an accepted close": under what the
 -- start was given, with these units, and closed or not
@@ -23,6 +40,21 @@ laidOut kind s us closed =
 unfoldable pub sealedOf : Kind → Start → List BookUnit → Bool → List Sealing
 sealedOf kind s us closed =
     unitSealings kind (s .suite) (s .number) 0 us ++ cond closed (closeSealing kind (s .suite) (s .number) (length us) ∷ []) []
+
+-- how a call is answered in a list of calls, by number: "Add: 9 to 13, 7", "Close: 9, 10, 7", of which 9 is never due. The writer is closed or
+-- not, has so many units, and is at a place of a buffer of room bytes.
+abbrev pub answerTo : Kind → Bool → ℕ → ℕ → ℕ → Call → Told
+answerTo kind closed count place room (add u) =
+    due closed 10
+    (due (not (pairAllowed (u .from) (u .to))) 11
+    (due (not (inRange (length (u .source)) (length (u .target)))) 12
+    (due (not (ltb count (kind .unitLimit))) 13
+    (due (not (leb (place + unitLength kind (length (u .source)) (length (u .target))) room)) 7
+    (gives [])))))
+answerTo kind closed count place room close =
+    due closed 10
+    (due (not (leb (place + closeLength kind) room)) 7
+    (gives []))
 
 -- after the calls cs: their units us, whether a close was accepted, their sealings ss, and the state e
 pub record Leaves (kind : Kind) (s : Start) (us : List BookUnit) (closed : Bool) (ss : List Sealing) (e : State) : Type 0 where
@@ -38,6 +70,8 @@ pub record Leaves (kind : Kind) (s : Start) (us : List BookUnit) (closed : Bool)
   pub number : e .writer .number ≡ s .number
   pub closes : e .writer .closed ≡ closed
   pub count : e .writer .count ≡ length us
+  -- what each call is answered next
+  pub answers : (c : Call) → told (outcome kind c e) ≡ answerTo kind closed (length us) (e .writer .place) (length (e .buffer)) c
   -- the units are such as a book may have, and not too many
   pub bookable : Bookable kind (s .suite) (s .key) (s .number) us
   -- the sealings are theirs, and the close's
