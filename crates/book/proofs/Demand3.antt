@@ -22,10 +22,11 @@ use Rattle.writer.specs.History.{add, Callable, adds, closes, Start, started, h
 use Rattle.writer.specs.Left.{laidOut, sealedOf, Leaves as WriterLeaves, writing}
 use Rattle.writer.proofs.Left.{writer-half}
 use Rattle.writer.proofs.Passed.{start-passes}
-use Rattle.checker.specs.Check.{checkAnswer}
+use Rattle.checker.specs.Check.{checkAnswer, checkTold}
 use Rattle.checker.specs.Exact.{bookSealings, IsBook}
 use Rattle.checker.proofs.BookKinds.{is-own}
 use Rattle.checker.proofs.Exact.{checker-half}
+use Rattle.checker.proofs.Told.{told-accepted}
 use Rattle.parser.proofs.Frames.{readable}
 use Rattle.book.specs.Demand3.{History, after, unitsAdded, leaves, LeavesBook, Demand3}
 
@@ -124,9 +125,12 @@ demand3 =
       exact = λ key x keyBytes bytes n t. (
         λ e.
             let k = bookKind x in
-            let (h, l, count, total) = is-left (kindOf k) (formed k) bytes (checker-half (kindOf k) (readable k) .accepted key x n t keyBytes bytes e) in
+            let book = checker-half (kindOf k) (readable k) .accepted key x n t keyBytes bytes (told-accepted (checkAnswer key x) n t e) in
+            let (h, l, count, total) = is-left (kindOf k) (formed k) bytes book in
             (k, h, l, count, total),
-        λ (k, h, l, count, total). checker-half (kindOf (bookKind x)) (readable (bookKind x)) .accepts key x n t (is-own k (left-is (kindOf k) (formed k) h l count total)),
+        λ (k, h, l, count, total).
+            let book = is-own k (left-is (kindOf k) (formed k) h l count total) in
+            ap checkTold (checker-half (kindOf (bookKind x)) (readable (bookKind x)) .accepts key x n t book),
       );
       one = λ k h₁ h₂ same e.
           let l₁ = left (kindOf k) (formed k) h₁ in

@@ -1,17 +1,17 @@
 -- Of every string that check accepts fetch gives exactly the units of each list of calls that leaves it.
 use mathlib.Core.Path.{_≡_, refl, sym, ap, subst, _∙_}
-use mathlib.Core.List.{List, _∷_, _++_}
+use mathlib.Core.List.{List, [], _∷_, _++_}
 use Prim.Native.Nat.{ℕ, _≤_}
 use native.Mathlib.Omega.{arith}
-use lib.ListN.{length}
+use lib.ListN.{length, getD}
 use Rattle.bits.specs.Bytes.{Bytes}
+use Rattle.suites.specs.Told.{Told, gives}
 use Rattle.kinds.specs.declared.Kind.{Kind as BookKind}
 use Rattle.kinds.specs.Kind.{kindOf}
 use Rattle.kinds.proofs.Formed.{formed}
 use Rattle.fields.specs.Unit.{BookUnit}
 use Rattle.format.specs.Layout.{bookBytes, Bookable}
-use Rattle.checker.specs.Check.{checkAnswer}
-use Rattle.checker.specs.declared.check.CheckAnswer.the-variants.{Accepted}
+use Rattle.checker.specs.Check.{checkAnswer, checkTold}
 use Rattle.fetch.specs.Exact.{HandsOut, NoUnit, ClosesAt, PartOf, placeBehind, StandsAt, SaysClear}
 use Rattle.fetch.proofs.Exact.{fetches-units}
 use Rattle.book.specs.Demand3.{History, after, unitsAdded, LeavesBook}
@@ -55,14 +55,13 @@ module _ (q : BookKind) (h : History (kindOf q)) {key x : List ℕ} (l : LeavesB
       record { count = all; unit = unit-of; none = λ k past. none-of k (omega arith); part = part-of; placed = placed-of; clear = clear-of; closes = closes-of }
 
 -- check counts the units of every such list
-counted : {key x : List ℕ} → Bytes key → Bytes x → (n t : ℕ) → checkAnswer key x ≡ Accepted n t
+counted : {key x : List ℕ} → Bytes key → Bytes x → (n t : ℕ) → checkTold (checkAnswer key x) ≡ gives (n ∷ t ∷ [])
     → (q : BookKind) (h : History (kindOf q)) → LeavesBook h key x → after h .writer .count ≡ n
 counted {key} {x} keyBytes bytes n t e q h l =
     let count = after h .writer .count in
     let total = after h .writer .total in
     let own = demand3 .exact key x keyBytes bytes count total .1 (q, h, l, refl, refl) in
-    let same : Accepted count total ≡ Accepted n t = sym own ∙ e in
-    cc
+    ap (λ (r : Told). getD (r .values) 0 0) (sym own ∙ e)
 
 pub fetch-law : FetchLaw
 fetch-law = record { accepted = λ key x keyBytes bytes n t e q h l. fetches q h l n (counted keyBytes bytes n t e q h l) }

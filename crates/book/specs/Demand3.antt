@@ -5,10 +5,11 @@
 use mathlib.Core.Path.{_≡_}
 use mathlib.Core.Bool.{true}
 use mathlib.Core.Logic.{_↔_}
-use mathlib.Core.List.{List, map, List·Nodup}
+use mathlib.Core.List.{List, [], _∷_, map, List·Nodup}
 use Prim.Native.Nat.{ℕ}
 use lib.ListN.{length, take}
 use Rattle.bits.specs.Bytes.{Bytes}
+use Rattle.suites.specs.Told.{gives}
 use Rattle.fields.specs.Each.{Each}
 use Rattle.fields.specs.Kind.{Kind, writerKind}
 use Rattle.format.specs.Sealings.{cipherCalls, callTotal}
@@ -17,8 +18,7 @@ use Rattle.kinds.specs.declared.Kind.{Kind as BookKind}
 use Rattle.kinds.specs.Kind.{kindOf, newest}
 use Rattle.writer.specs.History.{Call, Callable, State, Start, started, afterCalls, units, hasClose, sealings}
 use Rattle.writer.specs.Left.{WriterHalf}
-use Rattle.checker.specs.Check.{checkAnswer}
-use Rattle.checker.specs.declared.check.CheckAnswer.the-variants.{Accepted}
+use Rattle.checker.specs.Check.{checkAnswer, checkTold}
 
 -- "Take every list of add and close calls, refused ones included, from an accepted start. Each call gets the writer last handed back and the
 -- start's buffer as the last call left it, and nobody else writes that buffer meanwhile."
@@ -61,7 +61,7 @@ pub record Demand3 : Type 0 where
   -- string": a list of some kind that can be read; "checking, where it accepts, returns the unit count and call total of the writer that leaves
   -- the string"
   pub exact : (key x : List ℕ) → Bytes key → Bytes x → (n t : ℕ)
-      → (checkAnswer key x ≡ Accepted n t)
+      → (checkTold (checkAnswer key x) ≡ gives (n ∷ t ∷ []))
       ↔ ((k : BookKind) × (h : History (kindOf k)) × LeavesBook h key x × (after h .writer .count ≡ n) × (after h .writer .total ≡ t))
   -- (4) "All such lists under that key that leave the same string have the same units in the same order.": kind by kind, closed or not
   pub one : (k : BookKind) (h₁ h₂ : History (kindOf k))

@@ -1,14 +1,14 @@
 -- Fetching from a book that a writer has left, as a statement over the lists of calls of demand 3; proofs/Fetched proves it. By demand 3 (3)
 -- these are exactly the strings that check accepts, and by (4) such a string has one list of units.
 use mathlib.Core.Path.{_≡_}
-use mathlib.Core.List.{List, _∷_, _++_}
+use mathlib.Core.List.{List, [], _∷_, _++_}
 use Prim.Native.Nat.{ℕ, _≤_}
 use lib.ListN.{length}
 use Rattle.bits.specs.Bytes.{Bytes}
+use Rattle.suites.specs.Told.{gives}
 use Rattle.fields.specs.Kind.{Kind}
 use Rattle.fields.specs.Unit.{BookUnit}
-use Rattle.checker.specs.Check.{checkAnswer}
-use Rattle.checker.specs.declared.check.CheckAnswer.the-variants.{Accepted}
+use Rattle.checker.specs.Check.{checkAnswer, checkTold}
 use Rattle.kinds.specs.declared.Kind.{Kind as BookKind}
 use Rattle.kinds.specs.Kind.{kindOf}
 use Rattle.fetch.specs.Exact.{HandsOut, NoUnit, ClosesAt, PartOf, placeBehind, StandsAt, SaysClear}
@@ -35,5 +35,5 @@ pub record FetchesBook {kind : Kind} (list : History kind) (key x : List ℕ) (n
 
 -- in a book that check accepts, and of every list that leaves it; there is one by demand 3 (3)
 pub record FetchLaw : Type 0 where
-  pub accepted : (key x : List ℕ) → Bytes key → Bytes x → (n t : ℕ) → checkAnswer key x ≡ Accepted n t
+  pub accepted : (key x : List ℕ) → Bytes key → Bytes x → (n t : ℕ) → checkTold (checkAnswer key x) ≡ gives (n ∷ t ∷ [])
       → (k : BookKind) (list : History (kindOf k)) → LeavesBook list key x → FetchesBook list key x n

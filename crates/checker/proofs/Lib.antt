@@ -5,3 +5,4 @@ pub mod From
 pub mod Exact
 pub mod Turns
 pub mod BookKinds
+pub mod Told
