@@ -1,12 +1,39 @@
--- What the calls on a writer leave in the bytes that C keeps.
+-- What the calls on a writer return to C, and what they leave in what C keeps: the writer's 64 bytes and the buffer.
+use mathlib.Core.Path.{_≡_}
 use mathlib.Core.List.{List}
 use Prim.Native.Nat.{ℕ}
-use Rattle.suites.specs.declared.refusal.Answer.{Answer}
-use Rattle.suites.specs.declared.refusal.Answer.the-variants.{Done, Refused}
-use Rattle.writer.specs.declared.Writer.{Writer}
-use Rattle.writer_bytes.specs.WriterBytes.{writerBytes}
+use lib.ListN.{length}
+use Rattle.suites.specs.declared.suite.Suite.{Suite}
+use Rattle.suites.specs.Told.{byAnswer}
+use Rattle.fields.specs.Kind.{writerKind}
+use Rattle.writer.specs.History.{Call, State, outcome, afterCall}
+use Rattle.writer.specs.Writer.{startOutcome, startWriter, startBuffer}
+use Rattle.writer_bytes.specs.WriterBytes.{writerOf, writerBytes}
+use Rattle.returned.specs.Returned.{returned}
 
--- the writer's 64 bytes after a call: those of the writer that was handed back, or what was there
-abbrev pub bytesAfter : Answer → Writer → List ℕ → List ℕ
-bytesAfter Done w old = writerBytes w
-bytesAfter (Refused why) w old = old
+pub record Kept : Type 0 where
+  pub writer : List ℕ
+  pub buffer : List ℕ
+
+abbrev pub kept : List ℕ → List ℕ → Kept
+kept writer buffer = record { writer = writer; buffer = buffer }
+
+-- the writer that the bytes hold, and the buffer: a state of the lists of calls of demand 3
+abbrev pub stateOf : Kept → State
+stateOf k = record { writer = writerOf (k .writer); buffer = k .buffer }
+
+-- the writer's bytes after a call: those of the writer that was handed back, or with a refusal what was there
+abbrev pub bytesAfter : Call → Kept → List ℕ
+bytesAfter c k = byAnswer (outcome writerKind c (stateOf k)) (writerBytes (afterCall writerKind c (stateOf k) .writer)) (k .writer)
+
+-- the contracts of `sb_add` and `sb_close`: a call returns r, and leaves what is kept after it
+pub record Calls (c : Call) (before : Kept) (r : ℕ) (after : Kept) : Type 0 where
+  pub returns : r ≡ returned (outcome writerKind c (stateOf before))
+  pub writer : after .writer ≡ bytesAfter c before
+  pub buffer : after .buffer ≡ afterCall writerKind c (stateOf before) .buffer
+
+-- the contract of `sb_start`
+pub record Starts (suite : Suite) (key : List ℕ) (number : ℕ) (buf : List ℕ) (r : ℕ) (after : Kept) : Type 0 where
+  pub returns : r ≡ returned (startOutcome suite (length key) (length buf))
+  pub writer : after .writer ≡ writerBytes (startWriter suite key number buf)
+  pub buffer : after .buffer ≡ startBuffer suite key number buf

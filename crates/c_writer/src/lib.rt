@@ -4,13 +4,11 @@ use suites::refusal::Answer;
 use suites::suite::Suite;
 use writer::Writer;
 ghost use mathlib.Core.Path.{_≡_};
-ghost use lib.ListN.{length};
-ghost use Rattle.fields.specs.Kind.{writerKind};
 ghost use Rattle.fields.specs.Unit.{unitOf};
-ghost use Rattle.writer.specs.Writer.{startOutcome, startWriter, startBuffer, addOutcome, addWriter, addBuffer, closeOutcome, closeWriter, closeBuffer};
-ghost use Rattle.writer_bytes.specs.WriterBytes.{writerOf, writerBytes};
-ghost use Rattle.returned.specs.Returned.{returned, suiteOf};
-ghost use Rattle.c_writer.specs.Written.{bytesAfter};
+ghost use Rattle.writer.specs.History.{add, close};
+ghost use Rattle.writer_bytes.specs.WriterBytes.{writerOf};
+ghost use Rattle.returned.specs.Returned.{suiteOf};
+ghost use Rattle.c_writer.specs.Written.{kept, Calls, Starts};
 
 #[no_mangle]
 pub extern "C" fn sb_start(
@@ -21,7 +19,8 @@ pub extern "C" fn sb_start(
     buf: &mut [u8],
     writer: &mut [u8; 64],
 ) -> u32
-    ensures { λ r. ⌜ (r ≡ returned (startOutcome (suiteOf cipher steps) (length (now (key .entry))) (length (now (buf .entry))))) × (now (buf .exit) ≡ startBuffer (suiteOf cipher steps) (now (key .entry)) number (now (buf .entry))) × (now (writer .exit) ≡ writerBytes (startWriter (suiteOf cipher steps) (now (key .entry)) number (now (buf .entry)))) ⌝ }
+    ensures { λ r. ⌜ Starts (suiteOf cipher steps) (now (key .entry)) number (now (buf .entry))
+        r (kept (now (writer .exit)) (now (buf .exit))) ⌝ }
 {
     let done = Writer::start(Suite { cipher, steps }, key, number, buf);
     let w = done.writer;
@@ -40,7 +39,8 @@ pub extern "C" fn sb_add(
     source: &[u8],
     target: &[u8],
 ) -> u32
-    ensures { λ r. ⌜ (r ≡ returned (addOutcome writerKind (writerOf (now (writer .entry))) (unitOf (now (from .entry)) (now (to .entry)) (now (source .entry)) (now (target .entry))) (length (now (buf .entry))))) × (now (buf .exit) ≡ addBuffer writerKind (writerOf (now (writer .entry))) (unitOf (now (from .entry)) (now (to .entry)) (now (source .entry)) (now (target .entry))) (now (buf .entry))) × (now (writer .exit) ≡ bytesAfter (addOutcome writerKind (writerOf (now (writer .entry))) (unitOf (now (from .entry)) (now (to .entry)) (now (source .entry)) (now (target .entry))) (length (now (buf .entry)))) (addWriter writerKind (writerOf (now (writer .entry))) (unitOf (now (from .entry)) (now (to .entry)) (now (source .entry)) (now (target .entry))) (now (buf .entry))) (now (writer .entry))) ⌝ }
+    ensures { λ r. ⌜ Calls (add (unitOf (now (from .entry)) (now (to .entry)) (now (source .entry)) (now (target .entry))))
+        (kept (now (writer .entry)) (now (buf .entry))) r (kept (now (writer .exit)) (now (buf .exit))) ⌝ }
 {
     let w = writer_bytes::from_bytes(*writer);
     let done = w.add(*from, *to, source, target, buf);
@@ -58,7 +58,8 @@ pub extern "C" fn sb_add(
 
 #[no_mangle]
 pub extern "C" fn sb_close(writer: &mut [u8; 64], buf: &mut [u8]) -> u32
-    ensures { λ r. ⌜ (r ≡ returned (closeOutcome writerKind (writerOf (now (writer .entry))) (length (now (buf .entry))))) × (now (buf .exit) ≡ closeBuffer writerKind (writerOf (now (writer .entry))) (now (buf .entry))) × (now (writer .exit) ≡ bytesAfter (closeOutcome writerKind (writerOf (now (writer .entry))) (length (now (buf .entry)))) (closeWriter writerKind (writerOf (now (writer .entry))) (now (buf .entry))) (now (writer .entry))) ⌝ }
+    ensures { λ r. ⌜ Calls close
+        (kept (now (writer .entry)) (now (buf .entry))) r (kept (now (writer .exit)) (now (buf .exit))) ⌝ }
 {
     let w = writer_bytes::from_bytes(*writer);
     let done = w.close(buf);

@@ -30,6 +30,9 @@ pub record State : Type 0 where
   pub writer : Writer
   pub buffer : List ℕ
 
+abbrev pub state : Writer → List ℕ → State
+state w buf = record { writer = w; buffer = buf }
+
 -- how a call is answered
 abbrev pub outcome : Kind → Call → State → Answer
 outcome kind (add u) s = addOutcome kind (s .writer) u (length (s .buffer))
@@ -39,6 +42,18 @@ outcome kind close s = closeOutcome kind (s .writer) (length (s .buffer))
 abbrev pub afterCall : Kind → Call → State → State
 afterCall kind (add u) s = record { writer = addWriter kind (s .writer) u (s .buffer); buffer = addBuffer kind (s .writer) u (s .buffer) }
 afterCall kind close s = record { writer = closeWriter kind (s .writer) (s .buffer); buffer = closeBuffer kind (s .writer) (s .buffer) }
+
+-- the contracts of `add` and `close`: a call on the one state answers a, and leaves the other
+pub record Answers (kind : Kind) (c : Call) (before : State) (a : Answer) (after : State) : Type 0 where
+  pub answer : a ≡ outcome kind c before
+  pub writer : after .writer ≡ afterCall kind c before .writer
+  pub buffer : after .buffer ≡ afterCall kind c before .buffer
+
+-- the contract of `start`
+pub record Starts (suite : Suite) (key : List ℕ) (number : ℕ) (buf : List ℕ) (a : Answer) (after : State) : Type 0 where
+  pub answer : a ≡ startOutcome suite (length key) (length buf)
+  pub writer : after .writer ≡ startWriter suite key number buf
+  pub buffer : after .buffer ≡ startBuffer suite key number buf
 
 -- what a list of calls leaves, refused ones included
 unfoldable pub afterCalls : Kind → List Call → State → State

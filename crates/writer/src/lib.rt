@@ -3,10 +3,10 @@ use kinds::Kind;
 use suites::refusal::Answer;
 use suites::suite::Suite;
 ghost use mathlib.Core.Path.{_≡_};
-ghost use lib.ListN.{length};
 ghost use Rattle.fields.specs.Kind.{writerKind};
 ghost use Rattle.fields.specs.Unit.{unitOf};
-ghost use Rattle.writer.specs.Writer.{noWriter, startOutcome, startWriter, startBuffer, addOutcome, addWriter, addBuffer, closeOutcome, closeWriter, closeBuffer};
+ghost use Rattle.writer.specs.Writer.{noWriter};
+ghost use Rattle.writer.specs.History.{add, close, state, Answers, Starts};
 
 mod tests;
 
@@ -48,7 +48,8 @@ fn no_writer() -> Writer
 impl Writer {
     // The opening fields at the buffer's start, and a writer behind them. Refusals: 1, 2, 7.
     pub fn start(suite: Suite, key: &[u8], number: u64, buf: &mut [u8]) -> Written
-        ensures { λ r. ⌜ (r .answer ≡ startOutcome suite (length (now (key .entry))) (length (now (buf .entry)))) × (r .writer ≡ startWriter suite (now (key .entry)) number (now (buf .entry))) × (now (buf .exit) ≡ startBuffer suite (now (key .entry)) number (now (buf .entry))) ⌝ }
+        ensures { λ r. ⌜ Starts suite (now (key .entry)) number (now (buf .entry))
+            (r .answer) (state (r .writer) (now (buf .exit))) ⌝ }
     {
         let tested = crate::tests::start_tests(suite, key.len(), buf.len());
         match tested {
@@ -89,7 +90,8 @@ impl Writer {
         target: &[u8],
         buf: &mut [u8],
     ) -> Written
-        ensures { λ r. ⌜ (r .answer ≡ addOutcome writerKind self (unitOf from to (now (source .entry)) (now (target .entry))) (length (now (buf .entry)))) × (r .writer ≡ addWriter writerKind self (unitOf from to (now (source .entry)) (now (target .entry))) (now (buf .entry))) × (now (buf .exit) ≡ addBuffer writerKind self (unitOf from to (now (source .entry)) (now (target .entry))) (now (buf .entry))) ⌝ }
+        ensures { λ r. ⌜ Answers writerKind (add (unitOf from to (now (source .entry)) (now (target .entry))))
+            (state self (now (buf .entry))) (r .answer) (state (r .writer) (now (buf .exit))) ⌝ }
     {
         let s = source.len();
         let t = target.len();
@@ -140,7 +142,8 @@ impl Writer {
 
     // The close at the writer's place, and a closed writer behind it. Refusals: 9, 10, 7.
     pub fn close(self, buf: &mut [u8]) -> Written
-        ensures { λ r. ⌜ (r .answer ≡ closeOutcome writerKind self (length (now (buf .entry)))) × (r .writer ≡ closeWriter writerKind self (now (buf .entry))) × (now (buf .exit) ≡ closeBuffer writerKind self (now (buf .entry))) ⌝ }
+        ensures { λ r. ⌜ Answers writerKind close
+            (state self (now (buf .entry))) (r .answer) (state (r .writer) (now (buf .exit))) ⌝ }
     {
         let kind = Kind::newest();
         let tested = crate::tests::close_tests(kind, self, buf.len());

@@ -9,7 +9,11 @@ use Rattle.c_writer.proofs.sb_start.Tie as tie
 returns : tie.Need-returns
 returns c =
     let e = c .before .before .before .before .before .start .ensures in
-    (c .code .ensures ∙ ap returned (e .0), e .2, c .before .to-bytes .ensures ∙ ap writerBytes (e .1))
+    record {
+      returns = c .code .ensures ∙ ap returned (e .answer);
+      writer = c .before .to-bytes .ensures ∙ ap writerBytes (e .writer);
+      buffer = e .buffer;
+    }
 
 pub sb-start-spec : {M : Type 1} → statement M
 sb-start-spec =

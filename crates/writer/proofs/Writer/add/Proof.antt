@@ -110,7 +110,7 @@ returns c =
     let p = t .before .before .before .before .before in
     let e = sym (tests-are t) ∙ c .before .tested .given .1 in
     let is = add-handed writerKind (p .args .self) (unit p) (p .args .buf .now) e in
-    (sym e, is .0, is .1)
+    record { answer = sym e; writer = is .0; buffer = is .1 }
 
 returns-2 : tie.Need-returns-2
 returns-2 c =
@@ -126,9 +126,13 @@ returns-2 c =
     let t = length (u .target) in
     let e = done d in
     let is = add-handed writerKind w u buf e in
-    let long = length-unitBytes writerKind (w .suite) (w .key) (w .number) (w .count) u (codes p) in (
-      sym e,
-      _∙_ {b = addedTo writerKind w u}
+    let long = length-unitBytes writerKind (w .suite) (w .key) (w .number) (w .count) u (codes p) in
+    let bytes = unitBytes writerKind (w .suite) (w .key) (w .number) (w .count) u in
+    let rest = take (length buf - w .place) (drop (w .place) buf) in
+    record {
+      answer = sym e;
+      writer =
+          _∙_ {b = addedTo writerKind w u}
           (λ j. record {
             suite = w .suite;
             key = w .key;
@@ -138,12 +142,13 @@ returns-2 c =
             total = w .total + calls-are h j;
             closed = w .closed;
           })
-          (is .0),
-      put-part (w .place) (unitLength writerKind s t) (unitBytes writerKind (w .suite) (w .key) (w .number) (w .count) u) buf long (given d .valid .within) (h .put-unit .last .1 .1 .1 .1 .1 .1 .1 .1 .1 .0)
+          (is .0);
+      buffer =
+          put-part (w .place) (unitLength writerKind s t) bytes buf long (given d .valid .within) (h .put-unit .last .1 .1 .1 .1 .1 .1 .1 .1 .1 .0)
           (h .put-unit .ensures .is
-          ∙ ap (λ (k : Kind). unitBytes k (w .suite) (w .key) (w .number) (w .count) u ++ drop (unitLength k s t) (take (length buf - w .place) (drop (w .place) buf))) (kind-is k))
-          ∙ is .1,
-    )
+          ∙ ap (λ (k : Kind). unitBytes k (w .suite) (w .key) (w .number) (w .count) u ++ drop (unitLength k s t) rest) (kind-is k))
+          ∙ is .1;
+    }
 
 pub add-spec : {M : Type 1} → statement M
 add-spec =

@@ -77,7 +77,7 @@ returns c =
     let a = t .before .before .before .args in
     let e = sym (tests-are t) ∙ c .before .tested .given .1 in
     let is = close-handed writerKind (a .self) (a .buf .now) e in
-    (sym e, is .0, is .1)
+    record { answer = sym e; writer = is .0; buffer = is .1 }
 
 returns-2 : tie.Need-returns-2
 returns-2 c =
@@ -90,9 +90,13 @@ returns-2 c =
     let buf = a .buf .now in
     let e = done d in
     let is = close-handed writerKind w buf e in
-    let long = length-closeBytes writerKind (w .suite) (w .key) (w .number) (w .count) in (
-      sym e,
-      _∙_ {b = closedOf writerKind w}
+    let long = length-closeBytes writerKind (w .suite) (w .key) (w .number) (w .count) in
+    let bytes = closeBytes writerKind (w .suite) (w .key) (w .number) (w .count) in
+    let rest = take (length buf - w .place) (drop (w .place) buf) in
+    record {
+      answer = sym e;
+      writer =
+          _∙_ {b = closedOf writerKind w}
           (λ j. record {
             suite = w .suite;
             key = w .key;
@@ -102,12 +106,13 @@ returns-2 c =
             total = w .total + calls-are h j;
             closed = true;
           })
-          (is .0),
-      put-part (w .place) (closeLength writerKind) (closeBytes writerKind (w .suite) (w .key) (w .number) (w .count)) buf long (given d .valid .within) (h .put-close .last .1 .1 .1 .1 .1 .0)
+          (is .0);
+      buffer =
+          put-part (w .place) (closeLength writerKind) bytes buf long (given d .valid .within) (h .put-close .last .1 .1 .1 .1 .1 .0)
           (h .put-close .ensures .is
-          ∙ ap (λ (k : Kind). closeBytes k (w .suite) (w .key) (w .number) (w .count) ++ drop (closeLength k) (take (length buf - w .place) (drop (w .place) buf))) (kind-is k))
-          ∙ is .1,
-    )
+          ∙ ap (λ (k : Kind). closeBytes k (w .suite) (w .key) (w .number) (w .count) ++ drop (closeLength k) rest) (kind-is k))
+          ∙ is .1;
+    }
 
 pub close-spec : {M : Type 1} → statement M
 close-spec =

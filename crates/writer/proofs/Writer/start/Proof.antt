@@ -40,7 +40,7 @@ returns c =
     let a = s .before .before .before .args in
     let e = sym (s .start-tests .ensures) ∙ c .before .before .tested .given .1 in
     let is = start-handed (a .suite) (a .key .now) (a .number) (a .buf .now) e in
-    (sym e, c .no-writer .ensures ∙ is .0, is .1)
+    record { answer = sym e; writer = c .no-writer .ensures ∙ is .0; buffer = is .1 }
 
 returns-2 : tie.Need-returns-2
 returns-2 c =
@@ -50,14 +50,16 @@ returns-2 c =
     let e = done (o .before) in
     let is = start-handed (a .suite) (a .key .now) (a .number) (a .buf .now) e in
     let key : c .block-at .result ≡ a .key .now = c .block-at .ensures ∙ take-all 16 (a .key .now) (le-of-eq (given (o .before) .key)) in
-    let f = openingFields (a .suite) (a .number) in (
-      sym e,
-      ap (λ (k : List ℕ). newWriter (a .suite) k (a .number)) key ∙ is .0,
-      h .copy .ensures
+    let f = openingFields (a .suite) (a .number) in
+    record {
+      answer = sym e;
+      writer = ap (λ (k : List ℕ). newWriter (a .suite) k (a .number)) key ∙ is .0;
+      buffer =
+          h .copy .ensures
           ∙ ap (λ (x : List ℕ). x ++ drop (length x) (a .buf .now)) (o .opening .ensures)
           ∙ ap (λ (k : ℕ). f ++ drop k (a .buf .now)) (sym (zero-add (length f)))
-          ∙ is .1,
-    )
+          ∙ is .1;
+    }
 
 pub start-spec : {M : Type 1} → statement M
 start-spec =
