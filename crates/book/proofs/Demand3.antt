@@ -1,15 +1,16 @@
 -- Demand 3 holds: of each kind by the writer's half and the checker's, and check takes a book by its own kind.
 use mathlib.Core.Path.{_≡_, refl, sym, ap, subst, _∙_}
 use mathlib.Core.Bool.{Bool, true}
-use mathlib.Core.List.{List, map}
+use mathlib.Core.List.{List, [], _∷_, map}
 use Prim.Native.Nat.{ℕ}
 use native.Mathlib.Omega.{arith}
 use lib.ListN.{length}
 use Rattle.bits.specs.Bytes.{Bytes}
 use Rattle.suites.specs.declared.refusal.Answer.{Answer}
-use Rattle.suites.specs.Told.{told}
+use Rattle.suites.specs.Told.{gives, told}
 use Rattle.fields.specs.Each.{Each, none, more, EachFrom, noneFrom, moreFrom}
 use Rattle.fields.specs.Kind.{Kind, WellFormed}
+use Rattle.kinds.specs.declared.Kind.{Kind as BookKind}
 use Rattle.kinds.specs.Kind.{kindOf, bookKind}
 use Rattle.kinds.proofs.Formed.{formed, newest-is}
 use Rattle.format.specs.Layout.{bookBytes, bookLength, Bookable}
@@ -115,6 +116,14 @@ module _ (kind : Kind) (formed : WellFormed kind) where
         left-total h (i .units) (w .0) (w .1) ∙ i .total,
       )
 
+-- check accepts what a list with an accepted close leaves, with its writer's count and call total
+pub left-checks : (k : BookKind) (h : History (kindOf k)) {key x : List ℕ} → LeavesBook h key x
+    → checkTold (checkAnswer key x) ≡ gives (after h .writer .count ∷ after h .writer .total ∷ [])
+unfolding checkAnswer
+left-checks k h {key} {x} l =
+    let book = is-own k (left-is (kindOf k) (formed k) h l refl refl) in
+    ap checkTold (checker-half (kindOf (bookKind x)) (readable (bookKind x)) .accepts key x (after h .writer .count) (after h .writer .total) book)
+
 -- the lists of each kind, and check by the book's own kind
 pub demand3 : Demand3
 unfolding checkAnswer laidOut
@@ -128,9 +137,7 @@ demand3 =
             let book = checker-half (kindOf k) (readable k) .accepted key x n t keyBytes bytes (told-accepted (checkAnswer key x) n t e) in
             let (h, l, count, total) = is-left (kindOf k) (formed k) bytes book in
             (k, h, l, count, total),
-        λ (k, h, l, count, total).
-            let book = is-own k (left-is (kindOf k) (formed k) h l count total) in
-            ap checkTold (checker-half (kindOf (bookKind x)) (readable (bookKind x)) .accepts key x n t book),
+        λ (k, h, l, count, total). left-checks k h l ∙ (λ j. gives (count j ∷ total j ∷ [])),
       );
       one = λ k h₁ h₂ same e.
           let l₁ = left (kindOf k) (formed k) h₁ in

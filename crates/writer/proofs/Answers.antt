@@ -23,7 +23,7 @@ use Rattle.fields.specs.Kind.{Kind}
 use Rattle.fields.specs.Languages.{pairAllowed}
 use Rattle.fields.specs.Unit.{inRange}
 use Rattle.kinds.specs.Lengths.{unitLength, closeLength}
-use Rattle.writer.specs.Writer.{valid, writerTests, addTests, addOutcome, closeOutcome}
+use Rattle.writer.specs.Writer.{writerTests, addTests, addOutcome, closeOutcome}
 use Rattle.writer.specs.History.{Call, add, close, State, outcome}
 use Rattle.writer.specs.Left.{answerTo}
 use Rattle.writer.proofs.Passed.{Valid, valid-is}

@@ -1,7 +1,7 @@
 -- A unit and a close have at most 1,024 cipher calls: what the limit of a writer's call total counts for each.
 use mathlib.Core.Path.{_≡_, refl}
 use mathlib.Core.Bool.{Bool, true, false, cond}
-use mathlib.Core.List.{List, [], _∷_, _++_}
+use mathlib.Core.List.{List, [], _∷_}
 use Prim.Native.Nat.{ℕ, suc, _+_, _*_, _≤_}
 use native.Mathlib.Omega.{arith}
 use lib.ListN.{length, length-append}
@@ -21,7 +21,7 @@ use Rattle.format.specs.Sealings.{
 }
 use Rattle.fields.specs.Unit.{BookUnit, Allowed, detailsOf, detailsLength}
 use Rattle.fields.proofs.Details.{length-detailsOf}
-use Rattle.format.proofs.Lengths.{length-openingFields, length-unitHeader, length-closeHeader, length-sealingCalls, callTotal-append, range-told}
+use Rattle.format.proofs.Lengths.{length-openingFields, length-unitHeader, length-closeHeader, length-sealingCalls, range-told}
 use Rattle.fields.proofs.Texts.{length-unitText}
 
 module _ (kind : Kind) (formed : WellFormed kind) (suite : Suite) (number n : ℕ) where

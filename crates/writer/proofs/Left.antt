@@ -47,7 +47,7 @@ use Rattle.writer.specs.Left.{laidOut, sealedOf, answerTo, Leaves, writi
 use Rattle.writer.proofs.Brings.{bytesOf, brought, Brings, add-long, add-total, brings, refused}
 use Rattle.writer.proofs.Few.{unit-calls, units-calls, close-total}
 use Rattle.writer.proofs.Answers.{answers-told}
-use Rattle.writer.proofs.Passed.{start-passed, Valid, add-passes, close-passes}
+use Rattle.writer.proofs.Passed.{start-passed, Valid, valid-is, add-passes, close-passes}
 use Rattle.writer.proofs.Put.{take-put, drop-put, length-put}
 
 -- what an accepted start leaves
@@ -226,6 +226,7 @@ module _ (kind : Kind) (s : Start) where
         number = i .number;
         closes = i .closes;
         count = i .count;
+        sound = valid-is kind (e .writer) (length (e .buffer)) (stands-valid formed i);
         answers = λ c.
             answers-told kind e (stands-valid formed i) c
             ∙ (λ j. answerTo kind (i .closes j) (i .count j) (e .writer .place) (length (e .buffer)) c);

@@ -8,12 +8,13 @@ use lib.Dec.{leb, ltb}
 use lib.ListN.{length, take, drop}
 use Rattle.suites.specs.Told.{Told, gives, due, told}
 use Rattle.fields.specs.Each.{Each, EachFrom}
-use Rattle.fields.specs.Kind.{Kind, WellFormed}
+use Rattle.fields.specs.Kind.{Kind}
 use Rattle.fields.specs.Languages.{pairAllowed}
 use Rattle.kinds.specs.Lengths.{unitLength, closeLength}
 use Rattle.format.specs.Layout.{unitsBytes, closeBytes, bookLength, Bookable}
 use Rattle.format.specs.Sealings.{Sealing, openingFields, unitSealings, closeSealing, cipherCalls, callTotal}
 use Rattle.fields.specs.Unit.{BookUnit, Allowed, inRange}
+use Rattle.writer.specs.Writer.{valid}
 use Rattle.writer.specs.History.{
   Call,
   add,
@@ -70,6 +71,8 @@ pub record Leaves (kind : Kind) (s : Start) (us : List BookUnit) (closed : Bool)
   pub number : e .writer .number ≡ s .number
   pub closes : e .writer .closed ≡ closed
   pub count : e .writer .count ≡ length us
+  -- the writer is such that 9 is not due
+  pub sound : valid kind (e .writer) (length (e .buffer)) ≡ true
   -- what each call is answered next
   pub answers : (c : Call) → told (outcome kind c e) ≡ answerTo kind closed (length us) (e .writer .place) (length (e .buffer)) c
   -- the units are such as a book may have, and not too many
