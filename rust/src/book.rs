@@ -99,7 +99,8 @@ impl<B: AsRef<[u8]>> Book<B> {
     /// # Errors
     ///
     /// Those of [`check`](Book::check), whatever the receipt; then [`Refusal::ReceiptDiffers`] where one of
-    /// the receipt's three numbers is another than the book's.
+    /// the receipt's three numbers is another than the book's. Of a book that was only checked,
+    /// [`receipt`](Book::receipt) says which.
     pub fn check_receipt(key: &[u8; 16], bytes: B, receipt: &Receipt) -> Result<Book<B>, Refusal> {
         let book = Book::check(key, bytes)?;
         if book.receipt != *receipt {
