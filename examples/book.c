@@ -1,5 +1,5 @@
-/* Writes a book of three units, checks it, fetches one unit and goes over all; then reads what stands in the clear, without the
- * key, and has the book refused with one bit changed. Prints what it did.
+/* Writes a book of three units, checks it and compares it with its receipt, fetches one unit and goes over all; then reads what
+ * stands in the clear, without the key, and has the book refused with one bit changed. Prints what it did.
  *
  *     cc -std=c99 -Wall -Wextra -I include examples/book.c target/staticlib/libsealed_book.a -o target/book && target/book
  */
@@ -26,6 +26,11 @@ static const struct unit units[] = {
 
 #define COUNT (sizeof units / sizeof units[0])
 
+/* What the maker of a book sends another way than the book: of a book that was made shorter meanwhile they are others. */
+struct receipt {
+    uint64_t bytes, units, calls;
+};
+
 /* Here fixed, in earnest secret. */
 static const uint8_t key[SB_KEY_LEN] = {0x00, 0x01, 0x02, 0x03, 0x04, 0x05, 0x06, 0x07,
                                         0x08, 0x09, 0x0A, 0x0B, 0x0C, 0x0D, 0x0E, 0x0F};
@@ -36,8 +41,8 @@ static uint32_t refused(const char *call, uint32_t number) {
     return number;
 }
 
-/* Writes the book, and says how many bytes it has. Its number must be one never used before under the key. */
-static uint32_t write_book(uint8_t *book, size_t room, size_t *len) {
+/* Writes the book, and hands out its receipt. Its number must be one never used before under the key. */
+static uint32_t write_book(uint8_t *book, size_t room, struct receipt *receipt) {
     uint8_t writer[SB_WRITER_LEN];
     uint32_t no = sb_start(SB_SCREAM, 10, key, sizeof key, 1, book, room, writer);
     if (no != 0) return refused("sb_start", no);
@@ -49,7 +54,9 @@ static uint32_t write_book(uint8_t *book, size_t room, size_t *len) {
     }
     no = sb_close(writer, book, room);
     if (no != 0) return refused("sb_close", no);
-    *len = (size_t)sb_place(writer);
+    receipt->bytes = sb_place(writer);
+    receipt->units = sb_units(writer);
+    receipt->calls = sb_calls(writer);
     memset(writer, 0, sizeof writer); /* it holds the key */
     return 0;
 }
@@ -60,13 +67,18 @@ static void print_unit(const char *name, uint64_t k, const uint8_t *out, uint64_
     printf("\n");
 }
 
-/* Checks the book, fetches one unit, and then all in order. */
-static uint32_t read_book(const uint8_t *book, size_t len) {
+/* Checks the book and compares it with the receipt, fetches one unit, and then all in order. */
+static uint32_t read_book(const uint8_t *book, size_t len, const struct receipt *receipt) {
     uint8_t out[SB_UNIT_MAX];
     uint64_t count, calls, source_len, target_len, k = 0, at = SB_FIRST_UNIT;
     uint32_t no = sb_check(key, sizeof key, book, len, &count, &calls);
     if (no != 0) return refused("sb_check", no);
     printf("checked: %lu units, %lu cipher calls\n", (unsigned long)count, (unsigned long)calls);
+    if (receipt->bytes != len || receipt->units != count || receipt->calls != calls) {
+        fprintf(stderr, "the book is not the one of the receipt\n");
+        return UINT32_MAX; /* no refusal has this number */
+    }
+    printf("the receipt agrees\n");
 
     no = sb_fetch(key, sizeof key, book, len, 1, out, sizeof out, &source_len, &target_len);
     if (no != 0) return refused("sb_fetch", no);
@@ -95,16 +107,19 @@ static uint32_t read_clear(const uint8_t *book, size_t len, size_t *ciphertext) 
 }
 
 int main(void) {
-    size_t segments = 0, len, ciphertext;
+    size_t segments = 0, len = 0, ciphertext;
+    struct receipt receipt;
     for (size_t i = 0; i < COUNT; i++) segments += strlen(units[i].source) + strlen(units[i].target);
     size_t room = SB_BOOK_ROOM(COUNT, segments);
     uint8_t *book = malloc(room);
     if (book == NULL) return 1;
 
-    uint32_t no = write_book(book, room, &len);
+    uint32_t no = write_book(book, room, &receipt);
     if (no == 0) {
-        printf("a book of %lu bytes\n", (unsigned long)len);
-        no = read_book(book, len);
+        len = (size_t)receipt.bytes; /* in earnest the length of the file that is received */
+        printf("receipt: bytes=%lu units=%lu calls=%lu\n", (unsigned long)receipt.bytes, (unsigned long)receipt.units,
+               (unsigned long)receipt.calls);
+        no = read_book(book, len, &receipt);
     }
     if (no == 0) no = read_clear(book, len, &ciphertext);
     if (no == 0) {

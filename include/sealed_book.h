@@ -5,6 +5,16 @@
  * keeps a pointer, allocates, or writes anywhere but through the parameters that are not const. What is lent to be written
  * must not overlap anything else that is lent to the same call.
  *
+ * There is no state outside what is lent: calls may be made from several threads at once, as long as none writes what another
+ * one is lent.
+ *
+ * How much stack a call takes at most, with the C library's memcpy and memset, which are linked already (where they are linked
+ * at their first call, that takes some KB more):
+ *    1 KB  sb_start, sb_place, sb_units, sb_calls, sb_info, sb_unit, sb_unit_at, sb_ciphertext
+ *    4 KB  sb_encipher, sb_decipher, sb_encipher_blocks, sb_decipher_blocks
+ *    8 KB  sb_seal, sb_add, sb_close, sb_check
+ *   20 KB  sb_open, sb_fetch, sb_fetch_at
+ *
  * Link with libsealed_book.a (x86-64 Linux).
  */
 #ifndef SEALED_BOOK_H
@@ -97,7 +107,7 @@ static inline const char *sb_refusal_text(uint32_t refusal) {
 }
 
 /* Enciphers, or deciphers, one block of 16 bytes in place, under a key and a tweak of 16 bytes each.
- * Refusal: 1; then the block is as it was. */
+ * Refusal: 1; then nothing is written, and the block is as it was. */
 uint32_t sb_encipher(uint8_t cipher, uint8_t steps, const uint8_t key[SB_KEY_LEN], const uint8_t tweak[SB_BLOCK_LEN],
                      uint8_t block[SB_BLOCK_LEN]);
 uint32_t sb_decipher(uint8_t cipher, uint8_t steps, const uint8_t key[SB_KEY_LEN], const uint8_t tweak[SB_BLOCK_LEN],
@@ -117,6 +127,9 @@ uint32_t sb_decipher_blocks(uint8_t cipher, uint8_t steps, const uint8_t key[SB_
  * nonces under one key must have the same length.
  * Limits: header min(2^(130 - 8n), 2^24) bytes, text min(2^(131 - 8n), 2^24), which are SB_HEADER_MAX(n) and SB_TEXT_MAX(n). A
  * slice of length 0 may be null.
+ * How long the text is, is not sealed along: without the key, who knows a text can make sealed bytes of a shorter one from it,
+ * which sb_open accepts (docs/SECURITY.md says when). Put text_len into the header, and on opening sealed_len - SB_TAG_LEN: then
+ * these are refused.
  * Refusals, the first that applies: 1, 2, 3, 4, 6, 7; then out, *len and *calls are as they were. */
 uint32_t sb_seal(uint8_t cipher, uint8_t steps, const uint8_t *key, size_t key_len, const uint8_t *nonce, size_t nonce_len,
                  const uint8_t *header, size_t header_len, const uint8_t *text, size_t text_len,
@@ -124,7 +137,8 @@ uint32_t sb_seal(uint8_t cipher, uint8_t steps, const uint8_t *key, size_t key_l
 
 /* Opens what sb_seal has sealed under the same suite, key, nonce and header: writes the text, sealed_len - SB_TAG_LEN bytes, to
  * the start of out, and leaves every other byte of out as it was. *len is then the text's length. Nothing is written before the
- * tag has been compared in full. The limits are those of sb_seal. A slice of length 0 may be null.
+ * tag has been compared in full. The limits are those of sb_seal, which also says how a text that was made shorter on the way is
+ * refused. A slice of length 0 may be null.
  * Refusals, the first that applies: 1, 2, 3, 4, 5, 6, 7, 8; then out and *len are as they were. */
 uint32_t sb_open(uint8_t cipher, uint8_t steps, const uint8_t *key, size_t key_len, const uint8_t *nonce, size_t nonce_len,
                  const uint8_t *header, size_t header_len, const uint8_t *sealed, size_t sealed_len,
@@ -152,6 +166,16 @@ uint32_t sb_open(uint8_t cipher, uint8_t steps, const uint8_t *key, size_t key_l
  * Any 64 bytes may be lent: they are answered as the writer with these fields. 64 zero bytes, which a refused
  * sb_start leaves, are a closed writer, and sb_add and sb_close refuse it with 9. The writer holds the key: clear it when the book
  * is done.
+ *
+ * The receipt: without the key, who knows the text of a unit can make it shorter, and so can anybody where it repeats itself; and
+ * sb_check accepts the book (docs/SECURITY.md says when). Every book that was made so is shorter, and has fewer cipher calls. So
+ * who makes a book keeps three numbers of its writer after sb_close, and sends them another way than the book: one on which nobody
+ * can change them who can change the book. They are no secret.
+ *     bytes   sb_place(writer)     the length of the file that was received
+ *     units   sb_units(writer)     *units of sb_check
+ *     calls   sb_calls(writer)     *calls of sb_check
+ * Who receives the book compares them with what stands at the right, before any unit is used. As text they are a line as
+ * "bytes=84 units=1 calls=7", which the crate for Rust writes and reads.
  */
 
 /* Starts a book under a suite, a key of 16 bytes and a book number: writes SB_FIRST_UNIT bytes to the start of buf, leaves every
@@ -177,8 +201,8 @@ uint32_t sb_close(uint8_t writer[SB_WRITER_LEN], uint8_t *buf, size_t buf_len);
 
 /* Checks a whole book, from its first byte to its last, under its key of 16 bytes: accepts it where sb_start, sb_add for each unit
  * and sb_close under this key can have written it, and refuses any other bytes. Only reads. *units is then the number of units,
- * *calls the number of cipher calls that were made for the book: what sb_units and sb_calls give of its writer. A slice of
- * length 0 may be null.
+ * *calls the number of cipher calls that were made for the book: what sb_units and sb_calls give of its writer. That no text was
+ * made shorter on the way is known only once these and book_len agree with the receipt (above). A slice of length 0 may be null.
  * Refusals, the first that applies in the order of the bytes: 2; 14 of the opening fields; 1; of each unit 14 of its number and
  * languages' field, 13, 15, 11, 14 of its ciphertext's and tag's fields, 8, 12; of the close 14 of its fields, 15, 8, and 14 for
  * bytes left over. Then *units and *calls are as they were. */
@@ -188,7 +212,8 @@ uint32_t sb_check(const uint8_t *key, size_t key_len, const uint8_t *book, size_
  * writes its source and then its target to the start of out; every other byte of out stays as it was. *source_len and
  * *target_len are then their lengths. SB_UNIT_MAX bytes of out are always enough. Nothing is written before the tag has been
  * compared in full. The book need not have been checked: of the units before k only the fields, numbers and languages are looked
- * at, and nothing behind k. A slice of length 0 may be null.
+ * at, and nothing behind k. Then the unit may have been made shorter on the way: only the receipt of the whole book shows that.
+ * Key length and opening fields are tested before the walk. A slice of length 0 may be null.
  * Refusals, the first that applies in the order of the bytes: 2; 14 of the opening fields; 1; of each unit before k 14, 13, 15, 11,
  * 14 as in sb_check; of unit k these, then 8, 12, and 7; where the close is met, 14, 15, 8, 14 as in sb_check, then 16. Then out,
  * *source_len and *target_len are as they were. */
@@ -237,7 +262,7 @@ uint32_t sb_unit(const uint8_t *book, size_t book_len, uint64_t k, uint64_t *at,
  * would refuse. No seal is tested. */
 void sb_ciphertext(const uint8_t *book, size_t book_len, uint64_t k, uint64_t *at, uint64_t *len);
 
-/* The writer's place, unit count and call total, of any 64 bytes. Nothing is refused. */
+/* The writer's place, unit count and call total, of any 64 bytes; after sb_close they are the receipt. Nothing is refused. */
 uint64_t sb_place(const uint8_t writer[SB_WRITER_LEN]);
 uint64_t sb_units(const uint8_t writer[SB_WRITER_LEN]);
 uint64_t sb_calls(const uint8_t writer[SB_WRITER_LEN]);

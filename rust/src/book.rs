@@ -5,14 +5,18 @@ use std::iter::FusedIterator;
 use std::sync::OnceLock;
 
 use crate::secret::Secret;
-use crate::{info, raw, Info, Refusal, Suite, Unit};
+use crate::{info, raw, Info, Receipt, Refusal, Suite, Unit};
 
 /// A book that was checked as a whole, with its key and its bytes: `B` is a `Vec<u8>`, a `&[u8]`, an
 /// `Arc<[u8]>`, or whatever else lends bytes.
 ///
-/// That there is a `Book` says that a [`Writer`](crate::Writer) under this key has left these bytes, from
-/// the first to the last: no unit is missing, doubled, moved or exchanged, and nothing stands behind the
+/// That there is a `Book` says that a [`Writer`](crate::Writer) under this key can have left these bytes,
+/// from the first to the last: no unit is missing, doubled, moved or exchanged, and nothing stands behind the
 /// close.
+///
+/// That a writer did leave them it does not say: without the key, a unit can be made shorter that is known or
+/// repeats itself. A [`Receipt`] from the book's maker shows that, and
+/// [`check_receipt`](Book::check_receipt) takes it.
 ///
 /// The key is copied, and the copy cleared when the book is dropped.
 ///
@@ -38,9 +42,9 @@ use crate::{info, raw, Info, Refusal, Suite, Unit};
 /// let mut writer = Writer::start(Suite::SCREAM_10, &key, 7)?;
 /// writer.add("en", "de", "valve", "Ventil")?;
 /// writer.add("en", "de", "pump", "Pumpe")?;
-/// let bytes = writer.close()?;
+/// let (bytes, receipt) = writer.close()?;
 ///
-/// let book = Book::check(&key, bytes)?;
+/// let book = Book::check_receipt(&key, bytes, &receipt)?;
 /// assert_eq!((book.number(), book.suite(), book.len()), (7, Suite::SCREAM_10, 2));
 /// assert_eq!(book.fetch(1)?.source, b"pump");
 /// let units: Vec<Unit> = book.iter().collect::<Result<_, _>>()?;
@@ -53,8 +57,8 @@ pub struct Book<B> {
     key: Secret<16>,
     bytes: B,
     info: Info,
-    units: u64,
-    calls: u64,
+    /// Of the bytes as they were checked.
+    receipt: Receipt,
     /// Where each unit begins, once that was asked for; a refusal where the bytes are not those that were
     /// checked.
     places: OnceLock<Result<Box<[usize]>, Refusal>>,
@@ -74,15 +78,35 @@ impl<B: AsRef<[u8]>> Book<B> {
     pub fn check(key: &[u8; 16], bytes: B) -> Result<Book<B>, Refusal> {
         let lent = bytes.as_ref();
         let raw::Checked { units, calls } = raw::check(key, lent)?;
+        let receipt = Receipt {
+            bytes: lent.len() as u64,
+            units,
+            calls,
+        };
         let info = info(lent)?;
         Ok(Book {
             key: Secret(*key),
             bytes,
             info,
-            units,
-            calls,
+            receipt,
             places: OnceLock::new(),
         })
+    }
+
+    /// Checks the bytes as [`check`](Book::check) does, and then that they are those of the receipt, which
+    /// has come from the book's maker another way than the bytes. [`Receipt`] has an example.
+    ///
+    /// # Errors
+    ///
+    /// Those of [`check`](Book::check), whatever the receipt; then [`Refusal::ReceiptDiffers`] where one of
+    /// the receipt's three numbers is another than the book's. Of a book that was only checked,
+    /// [`receipt`](Book::receipt) says which.
+    pub fn check_receipt(key: &[u8; 16], bytes: B, receipt: &Receipt) -> Result<Book<B>, Refusal> {
+        let book = Book::check(key, bytes)?;
+        if book.receipt != *receipt {
+            return Err(Refusal::ReceiptDiffers);
+        }
+        Ok(book)
     }
 
     /// The suite it is sealed under.
@@ -97,17 +121,22 @@ impl<B: AsRef<[u8]>> Book<B> {
 
     /// How many units it has, 0 to 65,535.
     pub fn len(&self) -> u64 {
-        self.units
+        self.receipt.units
     }
 
     /// Whether it has no units.
     pub fn is_empty(&self) -> bool {
-        self.units == 0
+        self.len() == 0
     }
 
     /// How many calls of the cipher it has taken to write.
     pub fn calls(&self) -> u64 {
-        self.calls
+        self.receipt.calls
+    }
+
+    /// The receipt of these bytes, to be compared with the one that their maker has.
+    pub fn receipt(&self) -> Receipt {
+        self.receipt
     }
 
     /// Its bytes.
@@ -144,17 +173,17 @@ impl<B: AsRef<[u8]>> Book<B> {
             key: &self.key,
             bytes: self.bytes(),
             next: 0,
-            units: self.units,
+            units: self.len(),
             at: raw::FIRST_UNIT,
         }
     }
 
     /// What the fields of unit `k` say, which stand at the place that is noted.
     fn fields(&self, bytes: &[u8], k: u64) -> Result<raw::Unit, Refusal> {
-        if k >= self.units {
+        if k >= self.len() {
             return Err(Refusal::NoSuchUnit);
         }
-        let places = self.places.get_or_init(|| places(bytes, self.units));
+        let places = self.places.get_or_init(|| places(bytes, self.len()));
         let places = places.as_ref().map_err(|refusal| *refusal)?;
         let place = usize::try_from(k).ok().and_then(|k| places.get(k));
         raw::unit_at(bytes, k, *place.ok_or(Refusal::NoSuchUnit)?)
@@ -178,8 +207,8 @@ impl<B> fmt::Debug for Book<B> {
         f.debug_struct("Book")
             .field("suite", &self.info.suite)
             .field("number", &self.info.number)
-            .field("units", &self.units)
-            .field("calls", &self.calls)
+            .field("units", &self.receipt.units)
+            .field("calls", &self.receipt.calls)
             .finish_non_exhaustive()
     }
 }
@@ -266,7 +295,7 @@ mod tests {
         for source in ["one", "two", "three"] {
             writer.add("en", "de", source, "").unwrap();
         }
-        let bytes = writer.close().unwrap();
+        let (bytes, _) = writer.close().unwrap();
         let book = Book::check(&key, &bytes).unwrap();
 
         // the last byte of unit 1's tag

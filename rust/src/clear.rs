@@ -28,7 +28,7 @@ pub struct Info {
 ///
 /// # fn main() -> Result<(), sealed_book::Refusal> {
 /// # let key = [7; 16];
-/// let book = Writer::start(Suite::SCREAM_10, &key, 7)?.close()?;
+/// let (book, _) = Writer::start(Suite::SCREAM_10, &key, 7)?.close()?;
 /// let info = info(&book)?;
 /// assert_eq!((info.suite, info.number), (Suite::SCREAM_10, 7));
 /// # Ok(())
@@ -109,7 +109,7 @@ impl fmt::Debug for ClearUnit<'_> {
 /// # let key = [7; 16];
 /// let mut writer = Writer::start(Suite::SCREAM_10, &key, 7)?;
 /// writer.add("en", "de", "valve", "Ventil")?;
-/// let book = writer.close()?;
+/// let (book, _) = writer.close()?;
 ///
 /// let unit = clear_unit(&book, 0)?;
 /// assert_eq!((unit.source_language(), unit.target_language()), ("en", "de"));
@@ -138,7 +138,7 @@ pub fn clear_unit(book: &[u8], k: u64) -> Result<ClearUnit<'_>, Refusal> {
 /// # let key = [7; 16];
 /// let mut writer = Writer::start(Suite::SCREAM_10, &key, 7)?;
 /// writer.add("en", "de", "valve", "Ventil")?;
-/// let book = writer.close()?;
+/// let (book, _) = writer.close()?;
 ///
 /// assert_eq!(ciphertext(&book, 0).map(<[u8]>::len), Some(2 + "valve".len() + "Ventil".len()));
 /// assert_eq!(ciphertext(&book, 1), None);

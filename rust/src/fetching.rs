@@ -8,10 +8,12 @@ use crate::{raw, Refusal, Unit};
 /// What is tested then:
 /// - the opening fields, and of each unit before `k` that it is framed as a unit, has the running number
 ///   and allowed languages;
-/// - unit `k` in full: number, languages, source and target are those that a writer has added under this
+/// - unit `k` in full: number, languages, source and target are such as a writer can have added under this
 ///   key to a book of this number and suite, as its unit `k`.
 ///
 /// What is not:
+/// - that its text was not made shorter on the way: without the key that can be done where the text is known
+///   or repeats itself. Only a [`Receipt`](crate::Receipt) of the whole book shows it;
 /// - the seals of the other units: what stands before `k` may have been changed, and what stands behind
 ///   it is not looked at;
 /// - that the book is whole: its end may be missing. Only [`Refusal::NoSuchUnit`] is said after the close
@@ -34,7 +36,7 @@ use crate::{raw, Refusal, Unit};
 /// # let key = [7; 16];
 /// let mut writer = Writer::start(Suite::SCREAM_10, &key, 7)?;
 /// writer.add("en", "de", "valve", "Ventil")?;
-/// let book = writer.close()?;
+/// let (book, _) = writer.close()?;
 ///
 /// let unit = fetch(&key, &book, 0)?;
 /// assert_eq!((unit.source_language(), unit.source_text()?), ("en", "valve"));

@@ -2,9 +2,10 @@
 //! a translator as one sealed file, a **book**.
 //!
 //! A book is a list of **units**, each a source text and its translation, with the languages of the two.
-//! A [`Writer`] writes one; [`Book::check`] accepts the bytes under the key where a writer has left them,
-//! and refuses any other; units are then fetched one by one or in order. Texts are sealed with the
-//! tweakable block ciphers Scream and iScream (CAESAR version 1).
+//! A [`Writer`] writes one, and gives a [`Receipt`] with it; [`Book::check_receipt`] accepts the bytes under
+//! the key where a writer can have left them and they are those of the receipt, and refuses any other; units
+//! are then fetched one by one or in order. Texts are sealed with the tweakable block ciphers Scream and iScream
+//! (CAESAR version 1).
 //!
 //! ```
 //! use sealed_book::{Book, Refusal, Suite, Writer};
@@ -16,10 +17,10 @@
 //! writer.add("en", "de", "Hold the button down.", "Halten Sie die Taste.")?;
 //! writer.add("en", "fr", "Hold the button down.", "Maintenez le bouton.")?;
 //! writer.add("en", "de", "Close the valve.", "")?;
-//! let bytes = writer.close()?;
+//! let (bytes, receipt) = writer.close()?;
 //!
-//! // all of it is checked, and refused if a single bit is another; the book keeps its bytes
-//! let book = Book::check(&key, bytes)?;
+//! // all of it is checked, and held to the receipt, which has come another way; the book keeps its bytes
+//! let book = Book::check_receipt(&key, bytes, &receipt)?;
 //! assert_eq!(book.len(), 3);
 //!
 //! // one unit
@@ -37,9 +38,11 @@
 //! # }
 //! ```
 //!
-//! What is not checked as a whole can be fetched from, too: [`fetch`] says what is tested then. [`info`] and
-//! [`clear_unit`] read what stands in the clear, without the key. [`seal`] and [`open`] do a single text. What a call turns down it refuses with a [`Refusal`], and
-//! leaves everything as it was.
+//! Where there is no receipt, [`Book::check`] does the rest: without one, a text that was made shorter on the
+//! way may be accepted ([`Receipt`] says when). What is not checked as a whole can be fetched from, too:
+//! [`fetch`] says what is tested then. [`info`] and [`clear_unit`] read what stands in the clear, without the
+//! key. [`seal`] and [`open`] do a single text. What a call turns down it refuses with a [`Refusal`], and leaves
+//! everything as it was.
 //!
 //! # What stands below
 //!
@@ -61,6 +64,7 @@ mod clear;
 mod fetching;
 pub mod foreign;
 pub mod raw;
+mod receipt;
 mod refusal;
 mod sealing;
 mod secret;
@@ -71,6 +75,7 @@ mod writer;
 pub use book::{Book, Units};
 pub use clear::{ciphertext, clear_unit, info, ClearUnit, Info};
 pub use fetching::fetch;
+pub use receipt::{ParseReceiptError, Receipt};
 pub use refusal::Refusal;
 pub use sealing::{open, seal};
 pub use suite::{Cipher, Suite};

@@ -4,7 +4,8 @@ use std::error::Error;
 use std::fmt;
 
 /// The cause of a refusal. Its value is the number that the library returns, 1 to 16; as text it is a
-/// sentence for whoever made the call.
+/// sentence for whoever made the call. [`ReceiptDiffers`] is this crate's own, and its number none of the
+/// library's.
 ///
 /// A call tests its causes in a fixed order and gives the first that applies. After a refusal all is as
 /// it was before the call.
@@ -46,12 +47,16 @@ pub enum Refusal {
     NumberOutOfOrder = 15,
     /// The book has no unit of this number.
     NoSuchUnit = 16,
+    /// The bytes are accepted under the key, and are not those of the receipt: some were taken away, or
+    /// it is another book. The library does not give this; [`Book::check_receipt`](crate::Book::check_receipt)
+    /// does.
+    ReceiptDiffers = 1_001,
 }
 
 use Refusal::*;
 
-/// Every refusal, in the order of the numbers.
-const ALL: [Refusal; 16] = [
+/// Every refusal of the library, in the order of the numbers.
+const LIBRARY: [Refusal; 16] = [
     SuiteNotListed,
     KeyLength,
     NonceLength,
@@ -71,14 +76,17 @@ const ALL: [Refusal; 16] = [
 ];
 
 impl Refusal {
-    /// The refusal's number, 1 to 16.
+    /// The refusal's number: the library's, 1 to 16, and 1,001 for [`ReceiptDiffers`].
     pub fn number(self) -> u32 {
         self as u32
     }
 
     /// The refusal of this number.
     pub fn from_number(number: u32) -> Option<Refusal> {
-        ALL.into_iter().find(|refusal| refusal.number() == number)
+        match number {
+            1_001 => Some(ReceiptDiffers),
+            _ => of_library(number),
+        }
     }
 }
 
@@ -111,18 +119,26 @@ impl fmt::Display for Refusal {
                 "a unit's number is not the running one, or the close's count is not that of the units"
             }
             NoSuchUnit => "the book has no unit of this number",
+            ReceiptDiffers => "the book is not the one of the receipt: bytes were taken away, or it is another",
         })
     }
 }
 
 impl Error for Refusal {}
 
+/// The library's refusal of this number.
+fn of_library(number: u32) -> Option<Refusal> {
+    LIBRARY
+        .into_iter()
+        .find(|refusal| refusal.number() == number)
+}
+
 /// The library's answer: 0, or a refusal's number.
 pub(crate) fn answer(number: u32) -> Result<(), Refusal> {
     if number == 0 {
         return Ok(());
     }
-    match Refusal::from_number(number) {
+    match of_library(number) {
         Some(refusal) => Err(refusal),
         None => panic!("the library returned {number}, which is no refusal's number"),
     }
@@ -136,7 +152,7 @@ mod tests {
     fn numbers_run_from_1_to_16() {
         assert_eq!(answer(0), Ok(()));
         for number in 1..=16 {
-            let refusal = ALL[number as usize - 1];
+            let refusal = LIBRARY[number as usize - 1];
             assert_eq!(refusal.number(), number);
             assert_eq!(answer(number), Err(refusal));
         }
@@ -144,14 +160,23 @@ mod tests {
         assert_eq!(Refusal::from_number(17), None);
     }
 
+    /// The crate's own refusal has a number, which the library cannot return.
+    #[test]
+    fn own_number() {
+        assert_eq!(Refusal::from_number(1_001), Some(ReceiptDiffers));
+        assert_eq!(ReceiptDiffers.number(), 1_001);
+        assert!(std::panic::catch_unwind(|| answer(1_001)).is_err());
+    }
+
     /// Each text is its own, begins small, and has no full stop, so that it can stand inside a sentence.
     #[test]
     fn texts_differ() {
-        for refusal in ALL {
+        let all = LIBRARY.into_iter().chain([ReceiptDiffers]);
+        for refusal in all.clone() {
             let text = refusal.to_string();
             assert!(text.starts_with(|letter: char| letter.is_ascii_lowercase()));
             assert!(!text.ends_with('.'));
-            let same = ALL.iter().filter(|other| other.to_string() == text);
+            let same = all.clone().filter(|other| other.to_string() == text);
             assert_eq!(same.count(), 1, "{text}");
         }
     }

@@ -10,6 +10,12 @@ use crate::{raw, Refusal, Suite};
 /// key that is used for books is best used for nothing else. The header may have min(2^(130 − 8n), 2^24)
 /// bytes, the text min(2^(131 − 8n), 2^24): [`raw::header_max`] and [`raw::text_max`].
 ///
+/// # The text's length
+///
+/// The text's length is not sealed along: without the key, who knows a text can make sealed bytes of a shorter
+/// one from it, which [`open`] accepts; docs/SECURITY.md in the repository says when. Put the text's length
+/// into the header, and on opening the length of what has come (`sealed.len() - 16`): then these are refused.
+///
 /// # Errors
 ///
 /// The first of these that applies: [`Refusal::NonceLength`], [`Refusal::HeaderTooLong`],
@@ -42,7 +48,8 @@ pub fn seal(
 }
 
 /// Opens what [`seal`] has sealed under the same suite, key, nonce and header, and returns the text.
-/// Nothing of it is handed out before the tag was compared in full.
+/// Nothing of it is handed out before the tag was compared in full. [`seal`] says what to put into the header
+/// so that a text that was made shorter on the way is refused.
 ///
 /// # Errors
 ///

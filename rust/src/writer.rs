@@ -4,7 +4,7 @@ use std::fmt;
 use std::mem;
 
 use crate::secret::Secret;
-use crate::{raw, Refusal, Suite};
+use crate::{raw, Receipt, Refusal, Suite};
 
 /// How many bytes of memory a writer starts with.
 const FIRST: usize = 1_024;
@@ -34,8 +34,9 @@ const FIRST: usize = 1_024;
 /// assert_eq!(writer.add("en", "de", "valve", "Ventil"), Ok(0));
 /// assert_eq!(writer.add("en", "en", "valve", "valve"), Err(Refusal::LanguagesNotAllowed));
 /// assert_eq!(writer.add("en", "fr", "valve", "vanne"), Ok(1));
-/// let book = writer.close()?;
+/// let (book, receipt) = writer.close()?;
 /// assert_eq!(book.len(), raw::book_room(2, "valveVentil".len() + "valvevanne".len()));
+/// assert_eq!(receipt.to_string(), "bytes=127 units=2 calls=11");
 /// # Ok(())
 /// # }
 /// ```
@@ -105,17 +106,23 @@ impl Writer {
         Ok(number)
     }
 
-    /// Closes the book and returns its bytes.
+    /// Closes the book and returns its bytes, and the receipt of them: who gets it another way than the bytes
+    /// sees by it whether some were taken away.
     ///
     /// # Errors
     ///
     /// No refusal can occur: the writer is open, and its buffer grows.
-    pub fn close(mut self) -> Result<Vec<u8>, Refusal> {
+    pub fn close(mut self) -> Result<(Vec<u8>, Receipt), Refusal> {
         self.with_room(raw::close)?;
+        let receipt = Receipt {
+            bytes: raw::place(&self.bytes.0),
+            units: self.units(),
+            calls: self.calls(),
+        };
         let len = self.len();
         let mut book = mem::take(&mut self.buffer);
         book.truncate(len);
-        Ok(book)
+        Ok((book, receipt))
     }
 
     /// How many units are added.

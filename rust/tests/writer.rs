@@ -25,7 +25,7 @@ fn known_book() {
     assert_eq!(before[..16], opening);
     assert_eq!(before[16..25], [0x10, 0, 6, 0, 0, 0x65, 0x6E, 0x64, 0x65]);
 
-    let bytes = writer.close().unwrap();
+    let (bytes, _) = writer.close().unwrap();
     assert_eq!(bytes.len(), 84);
     assert_eq!(bytes[..60], before);
     assert_eq!(Book::check(&key, &bytes).unwrap().calls(), 7);
@@ -75,7 +75,7 @@ fn grows() {
                 assert!(writer.written() == &expected[..places[k]], "{k}, {name}");
                 assert_eq!(add(&mut writer, unit), Ok(k as u64), "{name}");
             }
-            assert!(writer.close().unwrap() == expected, "{name}");
+            assert!(writer.close().unwrap().0 == expected, "{name}");
         }
         assert!(written(&book) == expected, "{suite}, seed {SEED:X}");
     }
@@ -90,7 +90,7 @@ fn close_grows() {
         let mut writer = Writer::with_capacity(suite, &key, 1, place + left).unwrap();
         assert_eq!(writer.add("en", "de", "abcd", ""), Ok(0));
         assert_eq!(writer.len(), place);
-        let bytes = writer.close().unwrap();
+        let (bytes, _) = writer.close().unwrap();
         assert_eq!(bytes.len(), raw::book_room(1, 4));
         assert_eq!(Book::check(&key, &bytes).unwrap().len(), 1);
     }
@@ -162,7 +162,7 @@ fn refusals_leave_the_writer() {
         assert!(writer.written() == before, "{name}");
         assert_eq!(add(&mut writer, unit), Ok(counts.0), "after {name}");
     }
-    assert!(writer.close().unwrap() == in_one_buffer(&book));
+    assert!(writer.close().unwrap().0 == in_one_buffer(&book));
 }
 
 /// 65,535 units, and no more: codes and lengths are still refused first. The book is then whole.
@@ -180,7 +180,7 @@ fn a_full_book() {
     assert_eq!(writer.add("en", "e", "a", ""), Err(LanguagesNotAllowed));
     assert_eq!((writer.units(), writer.len()), (65_535, len));
 
-    let bytes = writer.close().unwrap();
+    let (bytes, _) = writer.close().unwrap();
     let checked = Book::check(&book.key, &bytes).unwrap();
     // each unit: two blocks of the header, one of the text, and the tag
     assert_eq!((checked.len(), checked.calls()), (65_535, 4 * 65_535 + 3));
@@ -204,7 +204,7 @@ fn any_bytes() {
     let mut writer = Writer::start(Suite::ISCREAM_8, &key, u64::MAX).unwrap();
     writer.add("aa", "ab", [0xFF, 0x00], vec![0x80]).unwrap();
     writer.add("aa", "ab", String::from("é"), b"\n").unwrap();
-    let bytes = writer.close().unwrap();
+    let (bytes, _) = writer.close().unwrap();
     let book = Book::check(&key, &bytes).unwrap();
     assert_eq!(book.number(), u64::MAX);
 
@@ -233,7 +233,7 @@ fn debug_shows_no_secret() {
     writer.add("en", "de", "valve", "Ventil").unwrap();
     let shown = format!("{writer:?}");
     assert_eq!(shown, "Writer { units: 1, calls: 4, len: 60, .. }");
-    let bytes = writer.close().unwrap();
+    let (bytes, _) = writer.close().unwrap();
     let book = Book::check(&key, &bytes).unwrap();
     let expected =
         "Book { suite: Suite { cipher: Scream, steps: 10 }, number: 7, units: 1, calls: 7, .. }";

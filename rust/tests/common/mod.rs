@@ -57,7 +57,7 @@ pub fn written(book: &second::Book) -> Vec<u8> {
     for (k, unit) in book.units.iter().enumerate() {
         assert_eq!(add(&mut writer, unit), Ok(k as u64));
     }
-    writer.close().expect("an open writer")
+    writer.close().expect("an open writer").0
 }
 
 /// A fetched unit is the one that was added as unit `k`.

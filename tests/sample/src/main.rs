@@ -1,11 +1,12 @@
 //! Enciphers one block with the proved library and deciphers it again; seals a sentence, opens it again,
-//! and has it refused with one bit changed; writes a book of three units, checks it, fetches one unit,
-//! goes over all, reads what stands in the clear, and has the book refused with two blocks exchanged.
+//! and has it refused with one bit changed; writes a book of three units, checks it and holds it to its
+//! receipt, fetches one unit, goes over all, reads what stands in the clear, and has the book refused with two
+//! blocks exchanged.
 //! Prints what it did.
 
 use std::error::Error;
 
-use sealed_book::{clear_unit, info, open, raw, seal, Book, Refusal, Suite, Unit, Writer};
+use sealed_book::{clear_unit, info, open, raw, seal, Book, Receipt, Refusal, Suite, Unit, Writer};
 
 const SUITE: Suite = Suite::SCREAM_10;
 
@@ -16,8 +17,8 @@ fn main() -> Result<(), Box<dyn Error>> {
     println!();
     one_sentence(&key)?;
     println!();
-    let bytes = write_a_book(&key)?;
-    read_a_book(&key, &bytes)?;
+    let (bytes, receipt) = write_a_book(&key)?;
+    read_a_book(&key, &bytes, &receipt)?;
     read_without_key(&bytes)?;
     change_a_book(&key, bytes)
 }
@@ -69,7 +70,7 @@ fn one_sentence(key: &[u8; 16]) -> Result<(), Box<dyn Error>> {
     refused("changed", answer, "one bit of byte 4")
 }
 
-fn write_a_book(key: &[u8; 16]) -> Result<Vec<u8>, Box<dyn Error>> {
+fn write_a_book(key: &[u8; 16]) -> Result<(Vec<u8>, Receipt), Box<dyn Error>> {
     let mut writer = Writer::start(SUITE, key, 7)?;
     let about = format!("book 7, {SUITE}: public");
     print("started", writer.written(), &about);
@@ -90,17 +91,18 @@ fn write_a_book(key: &[u8; 16]) -> Result<Vec<u8>, Box<dyn Error>> {
     refused("one more", answer, "from en to en")?;
 
     let before = writer.len();
-    let bytes = writer.close()?;
+    let (bytes, receipt) = writer.close()?;
     print(
         "closed",
         &bytes[before..],
         "the number of units, and the tag",
     );
-    Ok(bytes)
+    println!("receipt     {receipt}  sent another way than the book");
+    Ok((bytes, receipt))
 }
 
-fn read_a_book(key: &[u8; 16], bytes: &[u8]) -> Result<(), Box<dyn Error>> {
-    let book = Book::check(key, bytes)?;
+fn read_a_book(key: &[u8; 16], bytes: &[u8], receipt: &Receipt) -> Result<(), Box<dyn Error>> {
+    let book = Book::check_receipt(key, bytes, receipt)?;
     println!(
         "checked     book {}, {}: {} bytes, {} units, {} calls of the cipher",
         book.number(),
