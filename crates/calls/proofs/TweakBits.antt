@@ -1,6 +1,6 @@
 -- What stands in a tweak behind its nonce, bit by bit.
 use mathlib.Core.Path.{_≡_, refl, sym, ap, _∙_}
-use mathlib.Core.List.{List, [], _∷_, _++_}
+use mathlib.Core.List.{List, _∷_, _++_}
 use Prim.Native.Nat.{ℕ, zero, suc, _+_, _-_, _*_, _/_, _%_, _^_, _≤_, _<_}
 use native.Mathlib.Nat.{zero-add, suc-add, mul-add-div-right, mul-add-mod-self-right, mul-assoc, pow-succ', div-add-mod', zero-div}
 use native.Mathlib.Omega.{arith}
