@@ -62,11 +62,11 @@ unfolding tweak
 tweak-first nonce mark v = take-append-seam nonce (bigEndian (16 - length nonce) (mark * 256 ^ (15 - length nonce) + v))
 
 module _ (nonce : List ℕ) (i : ℕ) (hn : length nonce ≤ 15) where
-  -- the bits a, w of them, and behind these the number
-  marked-bits : (mark w a : ℕ) → 1 ≤ w → w ≤ 8 → mark ≡ a * 2 ^ (8 - w) → i < 2 ^ (128 - w - 8 * length nonce)
+  -- a mark whose first w bits are those of a: these bits, and behind them the number
+  marked-bits : (mark w a : ℕ) → w ≤ 8 → mark ≡ a * 2 ^ (8 - w) → i < 2 ^ (128 - w - 8 * length nonce)
       → bitsOf (drop (length nonce) (tweak nonce mark i)) ≡ highFirst w a ++ highFirst (128 - w - 8 * length nonce) i
   unfolding tweak
-  marked-bits mark w a hw h8 hm h =
+  marked-bits mark w a hw hm h =
       let k : ℕ = 15 - length nonce in
       let u : ℕ = 128 - w - 8 * length nonce in
       let width : 8 * (16 - length nonce) ≡ w + u = omega arith in
@@ -83,12 +83,12 @@ module _ (nonce : List ℕ) (i : ℕ) (hn : length nonce ≤ 15) where
   -- "After the nonce, highest bit first, number big-endian in all remaining bits: not-last text block 0 and number"
   pub text-bits : i < 2 ^ (127 - 8 * length nonce) → bitsOf (drop (length nonce) (textTweak nonce i)) ≡ 0 ∷ highFirst (127 - 8 * length nonce) i
   unfolding highFirst bit
-  text-bits h = marked-bits 0x00 1 0 (omega arith) (omega arith) refl h
+  text-bits h = marked-bits 0x00 1 0 (omega arith) refl h
 
   -- "not-last header block 10 and number"
   pub header-bits : i < 2 ^ (126 - 8 * length nonce) → bitsOf (drop (length nonce) (headerTweak nonce i)) ≡ 1 ∷ 0 ∷ highFirst (126 - 8 * length nonce) i
   unfolding highFirst bit
-  header-bits h = marked-bits 0x80 2 2 (omega arith) (omega arith) refl h
+  header-bits h = marked-bits 0x80 2 2 (omega arith) refl h
 
 -- "Special tweaks have after the nonce one byte, then zeros"
 pub special-bytes : (nonce : List ℕ) (byte : ℕ) → length nonce ≤ 15 → byte < 256
