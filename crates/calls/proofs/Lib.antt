@@ -1,4 +1,5 @@
 pub mod Tweaks
+pub mod TweakBits
 pub mod Distinct
 pub mod Strung
 pub mod ByBlocks

@@ -1,4 +1,5 @@
 pub mod Tweak
+pub mod TweakBits
 pub mod Calls
 pub mod Sealing
 pub mod Pieces

@@ -14,7 +14,8 @@ pub lbox-rows : (m : List (List ℕ)) → length m ≡ 16 → (w : List ℕ) →
 unfolding Lbox.layer
 lbox-rows m e w = tab-rows (λ i. Lbox.times m (getD w i 0)) (λ i. rw e at (times-lt m (getD w i 0)))
 
-pub lbox-undone : (m n : List (List ℕ)) → tab 16 (λ i. Lbox.times n (Lbox.times m (2 ^ i))) ≡ tab 16 (λ i. 2 ^ i) → (w : List ℕ) → Rows w → Lbox.layer n (Lbox.layer m w) ≡ w
+pub lbox-undone : (m n : List (List ℕ)) → tab 16 (λ i. Lbox.times n (Lbox.times m (2 ^ i))) ≡ tab 16 (λ i. 2 ^ i)
+    → (w : List ℕ) → Rows w → Lbox.layer n (Lbox.layer m w) ≡ w
 unfolding Lbox.layer
 lbox-undone m n e w r =
     tab-ext 8 (λ i. Lbox.times n (getD (tab 8 (λ i. Lbox.times m (getD w i 0))) i 0)) (λ i. getD w i 0)

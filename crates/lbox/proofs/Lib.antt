@@ -1,2 +1,3 @@
 pub mod Matrix
 pub mod Inverses
+pub mod Columns

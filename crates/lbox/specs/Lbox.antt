@@ -40,7 +40,7 @@ scream =
     (0 ∷ 1 ∷ 1 ∷ 0 ∷ 1 ∷ 0 ∷ 1 ∷ 1 ∷ 1 ∷ 1 ∷ 0 ∷ 1 ∷ 1 ∷ 1 ∷ 1 ∷ 0 ∷ []) ∷
     (0 ∷ 0 ∷ 0 ∷ 1 ∷ 1 ∷ 0 ∷ 1 ∷ 1 ∷ 0 ∷ 1 ∷ 1 ∷ 0 ∷ 0 ∷ 0 ∷ 0 ∷ 1 ∷ []) ∷ []
 
--- "the inverse being the transpose": its rows are those of A.3.1, whose last one is printed an entry short
+-- "the inverse being the transpose" (scream-transposed): its rows are those of A.3.1, whose last one is printed an entry short
 unfoldable pub screamInverse : List (List ℕ)
 screamInverse =
     (0 ∷ 0 ∷ 1 ∷ 1 ∷ 1 ∷ 0 ∷ 1 ∷ 0 ∷ 0 ∷ 0 ∷ 0 ∷ 1 ∷ 1 ∷ 1 ∷ 0 ∷ 0 ∷ []) ∷
@@ -60,7 +60,7 @@ screamInverse =
     (1 ∷ 1 ∷ 0 ∷ 1 ∷ 1 ∷ 0 ∷ 0 ∷ 0 ∷ 0 ∷ 0 ∷ 0 ∷ 0 ∷ 1 ∷ 1 ∷ 1 ∷ 0 ∷ []) ∷
     (1 ∷ 0 ∷ 0 ∷ 0 ∷ 1 ∷ 1 ∷ 0 ∷ 1 ∷ 0 ∷ 1 ∷ 0 ∷ 1 ∷ 0 ∷ 0 ∷ 0 ∷ 1 ∷ []) ∷ []
 
--- iScream's matrix, symmetric and its own inverse. "B.2.1 prints row 0 one entry short; it is 0, then fifteen 1s."
+-- iScream's matrix, symmetric (iscream-symmetric) and its own inverse. "B.2.1 prints row 0 one entry short; it is 0, then fifteen 1s."
 unfoldable pub iscream : List (List ℕ)
 iscream =
     (0 ∷ 1 ∷ 1 ∷ 1 ∷ 1 ∷ 1 ∷ 1 ∷ 1 ∷ 1 ∷ 1 ∷ 1 ∷ 1 ∷ 1 ∷ 1 ∷ 1 ∷ 1 ∷ []) ∷

@@ -1,2 +1,3 @@
 pub mod Lbox
 pub mod Tables
+pub mod Columns

@@ -5,7 +5,8 @@ ghost use Rattle.lbox.specs.Lbox;
 ghost use Rattle.lbox.specs.Tables.{joined, lookedUp};
 
 fn wide(x: u8) -> u16
-    ensures { λ r. ⌜ (r ≡ x) × (r < 256) ⌝ }
+    ensures { λ r. ⌜ (r ≡ x)
+        × (r < 256) ⌝ }
 {
     x as u16
 }

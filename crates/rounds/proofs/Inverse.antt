@@ -1,12 +1,12 @@
 -- The theorem of the ciphers: deciphering undoes enciphering, and enciphering deciphering.
-use mathlib.Core.Path.{_≡_, refl, sym, ap, subst, _∙_}
+use mathlib.Core.Path.{_≡_, refl, ap, subst, _∙_}
 use mathlib.Core.List.{List, [], _∷_}
 use mathlib.Core.Bool.{Bool, true, false, cond}
-use Prim.Native.Nat.{ℕ, zero, suc, _+_, _-_, _*_, _/_, _%_, _^_, _<_}
+use Prim.Native.Nat.{ℕ, zero, suc, _%_, _^_, _<_}
 use native.Mathlib.Omega.{arith}
 use lib.Bits.{bitXor, xor-lt}
 use lib.Dec.{eqb}
-use lib.ListN.{length, getD}
+use lib.ListN.{getD}
 use lib.Pow.{pow-pos}
 use Rattle.bits.proofs.Lists.{tab-getD}
 use Rattle.state.specs.Rows.{Rows, addRows}
@@ -91,11 +91,15 @@ module _ (c : Cipher) (n : ℕ) (key tweak : List ℕ) (k : Block key) (t : Bloc
   -- a block is enciphered to a block, and deciphered to one
   pub encipher-block : (b : List ℕ) → Block b → Block (encipher c n key tweak b)
   unfolding encipher
-  encipher-block b h = rows-block (steps (parts c) (tweakeys c key tweak) 0 n (addRows (rows b) (tweakeys c key tweak 0))) (whole .keeps (rows b) (block-rows b h))
+  encipher-block b h =
+      rows-block (steps (parts c) (tweakeys c key tweak) 0 n (addRows (rows b) (tweakeys c key tweak 0)))
+      (whole .keeps (rows b) (block-rows b h))
 
   pub decipher-block : (b : List ℕ) → Block b → Block (decipher c n key tweak b)
   unfolding decipher
-  decipher-block b h = rows-block (addRows (unsteps (parts c) (tweakeys c key tweak) 0 n (rows b)) (tweakeys c key tweak 0)) (whole .kept (rows b) (block-rows b h))
+  decipher-block b h =
+      rows-block (addRows (unsteps (parts c) (tweakeys c key tweak) 0 n (rows b)) (tweakeys c key tweak 0))
+      (whole .kept (rows b) (block-rows b h))
 
   -- Deciphering undoes enciphering, and enciphering deciphering: for both ciphers and every number of steps.
   pub decipher-encipher : (b : List ℕ) → Block b → decipher c n key tweak (encipher c n key tweak b) ≡ b

@@ -1,17 +1,16 @@
 -- Circuits of bitwise operations, run at any width: at 16 bits they are the code on rows, at 1 bit the same circuit on one column.
 use mathlib.Core.Path.{_≡_, refl, sym, ap, _∙_}
-use mathlib.Core.Bool.{Bool, true, false}
+use mathlib.Core.Bool.{Bool}
 use mathlib.Core.List.{List, [], _∷_, map}
-use Prim.Native.Nat.{ℕ, zero, suc, _+_, _-_, _*_, _^_, _≤_, _<_}
-use native.Mathlib.Omega.{arith}
+use Prim.Native.Nat.{ℕ, zero, suc, _-_, _^_, _<_}
 use lib.Bits.{bitAnd, bitOr, bitXor, and-lt, or-lt, xor-lt}
 use lib.Dec.{T, eqb, eqb→eq, lit<}
-use lib.ListN.{length, getD, set, take, List·getD-map}
+use lib.ListN.{getD, set, List·getD-map}
 use lib.Pow.{pow-pos, ones-sub-lt}
 use Rattle.bits.specs.Bit.{bit, gather}
 use Rattle.bits.specs.Table.{tab}
 use Rattle.bits.proofs.Bits.{bit-lt, bit-ext, bit-and, bit-or, bit-xor, bit-not, bit-of-zero, bit-gather, gather-lt}
-use Rattle.bits.proofs.Lists.{getD-tab, tab-ext}
+use Rattle.bits.proofs.Lists.{tab-ext}
 use Rattle.bits.proofs.Tests.{all, all-at}
 use Rattle.sbox.specs.Sbox.{column, layer}
 
@@ -168,4 +167,7 @@ module _ (t : List ℕ) (p : List Instruction) (test : T (right p t)) (w : List 
 pub circuit-is : (t : List ℕ) (p : List Instruction) → T (right p t) → (w : List ℕ) → ((i : ℕ) → getD w i 0 < 2 ^ 16)
     → tab 8 (λ i. getD (run 16 p (start (λ i. getD w i 0))) i 0) ≡ layer t w
 unfolding layer
-circuit-is t p test w words = sym (tab-ext 8 (λ i. gather 16 (λ j. bit (getD t (column w j) 0) i)) (λ i. getD (run 16 p (start (λ i. getD w i 0))) i 0) (row-is t p test w words))
+circuit-is t p test w words =
+    sym
+    (tab-ext 8 (λ i. gather 16 (λ j. bit (getD t (column w j) 0) i)) (λ i. getD (run 16 p (start (λ i. getD w i 0))) i 0)
+    (row-is t p test w words))

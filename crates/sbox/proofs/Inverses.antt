@@ -16,7 +16,9 @@ use Rattle.sbox.proofs.Circuit.{column-bit, column-lt}
 
 pub sbox-rows : (t w : List ℕ) → Rows (Sbox.layer t w)
 unfolding Sbox.layer
-sbox-rows t w = tab-rows (λ i. gather 16 (λ j. bit (getD t (Sbox.column w j) 0) i)) (λ i. gather-lt 16 (λ j. bit (getD t (Sbox.column w j) 0) i) (λ j. bit-lt (getD t (Sbox.column w j) 0) i))
+sbox-rows t w =
+    tab-rows (λ i. gather 16 (λ j. bit (getD t (Sbox.column w j) 0) i))
+    (λ i. gather-lt 16 (λ j. bit (getD t (Sbox.column w j) 0) i) (λ j. bit-lt (getD t (Sbox.column w j) 0) i))
 
 module _ (t : List ℕ) (w : List ℕ) (j : ℕ) (hj : j < 16) where
   layer-bit : (i : ℕ) → i < 8 → bit (getD (Sbox.layer t w) i 0) j ≡ bit (getD t (Sbox.column w j) 0) i

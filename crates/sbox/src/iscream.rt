@@ -21,8 +21,8 @@ pub fn layer(w: [u16; 8]) -> [u16; 8]
     // First 4-bit S-box
     t0 = (w4 & w5) ^ w6;
     t2 = (w6 | w5) ^ w7;
-    t3 = (t0 & w7) ^ w4;
-    t1 = (t2 & w4) ^ w5;
+    t3 = (t0 & w7) ^ w4; // printed: t0 ^ w4
+    t1 = (t2 & w4) ^ w5; // printed: (t3 & w4) ^ w5
     w0 = w0 ^ t0;
     w1 = w1 ^ t1;
     w2 = w2 ^ t2;

@@ -4,7 +4,6 @@ use mathlib.Core.List.{List, [], _∷_}
 use Prim.Native.Nat.{ℕ, _+_, _*_, _/_, _%_, _^_, _<_}
 use native.Mathlib.Omega.{arith}
 use lib.Bits.{bitXor, xor-shr, xor-mod}
-use lib.Dec.{lit<}
 use lib.ListN.{length, getD}
 use Rattle.bits.specs.Table.{tab}
 use Rattle.bits.proofs.Lists.{tab-getD}

@@ -1,12 +1,26 @@
 -- Strings that a loop fills from the back, and block by block.
 use mathlib.Core.Path.{_≡_, sym, ap, _∙_}
 use mathlib.Core.List.{List, [], _∷_, _++_, append-assoc, append-nil}
-use Prim.Native.Nat.{ℕ, suc, _+_, _-_, _*_, _/_, _%_, _^_, _≤_, _<_}
+use Prim.Native.Nat.{ℕ, suc, _+_, _-_, _*_, _/_, _%_, _^_, _≤_}
 use native.Mathlib.Nat.{le-of-eq}
 use native.Mathlib.Numerals.{add-one}
 use native.Mathlib.Omega.{arith}
 use lib.ListN.{length, getD, set, take, drop, replicate}
-use lib.Seq.{paste, getD-at, set-at, take-at, drop-at, take-suc, take-all, drop-drop, drop-paste, append-snoc, take-append-seam, take-append-le, take-append-add, length-take-le, length-paste-head}
+use lib.Seq.{
+  paste,
+  getD-at,
+  set-at,
+  take-at,
+  drop-at,
+  take-all,
+  drop-drop,
+  drop-paste,
+  take-append-seam,
+  take-append-le,
+  take-append-add,
+  length-take-le,
+  length-paste-head,
+}
 use Rattle.bits.specs.Bytes.{bigEndian}
 use Rattle.calls.specs.Tweak.{tweak}
 use Rattle.bits.proofs.BigEndian.{bigEndian-marked}
@@ -15,7 +29,8 @@ use Rattle.blockwise.proofs.Each.{strung-whole}
 
 -- a mark added in the first byte of a number that stands behind p
 mark-more : (p rest : List ℕ) (n k m v : ℕ) → length p ≡ n
-    → set (p ++ (bigEndian (suc k) v ++ rest)) n ((m + getD (p ++ (bigEndian (suc k) v ++ rest)) n 0) % 256) ≡ p ++ (bigEndian (suc k) (m * 256 ^ k + v) ++ rest)
+    → set (p ++ (bigEndian (suc k) v ++ rest)) n ((m + getD (p ++ (bigEndian (suc k) v ++ rest)) n 0) % 256)
+    ≡ p ++ (bigEndian (suc k) (m * 256 ^ k + v) ++ rest)
 unfolding bigEndian
 mark-more p rest n k m v long =
     let sum : (m + v / 256 ^ k % 256) % 256 ≡ (m + v / 256 ^ k) % 256 = both m (v / 256 ^ k) in
@@ -39,7 +54,9 @@ put-front d b at n hn hd hb =
 
 -- a block put at a place, then a number over its bytes from n on, then a mark added in the first of these
 module _ (d b : List ℕ) (at n m v : ℕ) (hn : n ≤ 15) (hd : at + 16 ≤ length d) (hb : length b ≡ 16) where
-  pub marked-put : {t u : List ℕ} {x : ℕ} → t ≡ paste d at b 16 → u ≡ take (at + n) t ++ (bigEndian (16 - n) v ++ drop (at + 16) t) → x ≡ (m + getD u (at + n) 0) % 256
+  pub marked-put : {t u : List ℕ} {x : ℕ} → t ≡ paste d at b 16
+      → u ≡ take (at + n) t ++ (bigEndian (16 - n) v ++ drop (at + 16) t)
+      → x ≡ (m + getD u (at + n) 0) % 256
       → set u (at + n) x ≡ take at d ++ (take n b ++ bigEndian (16 - n) (m * 256 ^ (15 - n) + v)) ++ drop (at + 16) d
   marked-put {t} {u} put number sum =
       let front : List ℕ = take at d ++ take n b in

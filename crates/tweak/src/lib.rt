@@ -31,8 +31,10 @@ fn based(nonce: &[u8]) -> [u8; 16]
 
 // A number in all bytes from n on of the block at a place.
 fn put_number(d: &mut [u8], at: usize, n: usize, number: u64)
-    requires { ⌜ (n ≤ 15) × (at + 16 ≤ length (now d)) ⌝ }
-    ensures { λ r. ⌜ now (d .exit) ≡ take (at + n) (now (d .entry)) ++ (bigEndian (16 - n) number ++ drop (at + 16) (now (d .entry))) ⌝ }
+    requires { ⌜ (n ≤ 15)
+        × (at + 16 ≤ length (now d)) ⌝ }
+    ensures { λ r. ⌜ now (d .exit) ≡ take (at + n) (now (d .entry))
+        ++ (bigEndian (16 - n) number ++ drop (at + 16) (now (d .entry))) ⌝ }
 {
     let mut x = number;
     let mut i: usize = 16;
@@ -52,8 +54,11 @@ fn sum(a: u8, b: u8) -> u8
 // A block put at a place: the base, a number in all bytes from n on, and a mark added in the first of these. It is made in place: a
 // processor waits where a block is made byte by byte and then read whole.
 fn put_marked(d: &mut [u8], at: usize, base: [u8; 16], n: usize, mark: u8, number: u64)
-    requires { ⌜ (n ≤ 15) × (at + 16 ≤ length (now d)) ⌝ }
-    ensures { λ r. ⌜ now (d .exit) ≡ take at (now (d .entry)) ++ (take n base ++ bigEndian (16 - n) (mark * 256 ^ (15 - n) + number)) ++ drop (at + 16) (now (d .entry)) ⌝ }
+    requires { ⌜ (n ≤ 15)
+        × (at + 16 ≤ length (now d)) ⌝ }
+    ensures { λ r. ⌜ now (d .exit) ≡ take at (now (d .entry))
+        ++ (take n base ++ bigEndian (16 - n) (mark * 256 ^ (15 - n) + number))
+        ++ drop (at + 16) (now (d .entry)) ⌝ }
 {
     blockwise::put_at(d, at, base);
     put_number(d, at, n, number);
@@ -63,8 +68,11 @@ fn put_marked(d: &mut [u8], at: usize, base: [u8; 16], n: usize, mark: u8, numbe
 
 // The tweaks of k numbers from `first` on, one behind the other.
 fn fill(nonce: &[u8], mark: u8, first: u64, k: usize, tweaks: &mut [u8])
-    requires { ⌜ (length (now nonce) ≤ 15) × (16 * k ≤ length (now tweaks)) × (first + k < 2 ^ 64) ⌝ }
-    ensures { λ r. ⌜ now (tweaks .exit) ≡ strung k (λ i. tweak (now (nonce .entry)) mark (first + i)) ++ drop (16 * k) (now (tweaks .entry)) ⌝ }
+    requires { ⌜ (length (now nonce) ≤ 15)
+        × (16 * k ≤ length (now tweaks))
+        × (first + k < 2 ^ 64) ⌝ }
+    ensures { λ r. ⌜ now (tweaks .exit) ≡ strung k (λ i. tweak (now (nonce .entry)) mark (first + i))
+        ++ drop (16 * k) (now (tweaks .entry)) ⌝ }
 {
     let base = based(nonce);
     let n = nonce.len();
@@ -77,8 +85,11 @@ fn fill(nonce: &[u8], mark: u8, first: u64, k: usize, tweaks: &mut [u8])
 
 // The tweaks of k text blocks that are not last, from `first` on, one behind the other.
 pub fn text_tweaks(nonce: &[u8], first: TextBlock, k: usize, tweaks: &mut [u8])
-    requires { ⌜ (length (now nonce) ≤ 15) × (16 * k ≤ length (now tweaks)) × (first .0 + k < 2 ^ 64) ⌝ }
-    ensures { λ r. ⌜ now (tweaks .exit) ≡ strung k (λ i. textTweak (now (nonce .entry)) (first .0 + i)) ++ drop (16 * k) (now (tweaks .entry)) ⌝ }
+    requires { ⌜ (length (now nonce) ≤ 15)
+        × (16 * k ≤ length (now tweaks))
+        × (first .0 + k < 2 ^ 64) ⌝ }
+    ensures { λ r. ⌜ now (tweaks .exit) ≡ strung k (λ i. textTweak (now (nonce .entry)) (first .0 + i))
+        ++ drop (16 * k) (now (tweaks .entry)) ⌝ }
 {
     let number = first.0;
     fill(nonce, 0x00, number, k, tweaks);
@@ -86,8 +97,11 @@ pub fn text_tweaks(nonce: &[u8], first: TextBlock, k: usize, tweaks: &mut [u8])
 
 // The tweaks of k header blocks that are not last, from `first` on, one behind the other.
 pub fn header_tweaks(nonce: &[u8], first: HeaderBlock, k: usize, tweaks: &mut [u8])
-    requires { ⌜ (length (now nonce) ≤ 15) × (16 * k ≤ length (now tweaks)) × (first .0 + k < 2 ^ 64) ⌝ }
-    ensures { λ r. ⌜ now (tweaks .exit) ≡ strung k (λ i. headerTweak (now (nonce .entry)) (first .0 + i)) ++ drop (16 * k) (now (tweaks .entry)) ⌝ }
+    requires { ⌜ (length (now nonce) ≤ 15)
+        × (16 * k ≤ length (now tweaks))
+        × (first .0 + k < 2 ^ 64) ⌝ }
+    ensures { λ r. ⌜ now (tweaks .exit) ≡ strung k (λ i. headerTweak (now (nonce .entry)) (first .0 + i))
+        ++ drop (16 * k) (now (tweaks .entry)) ⌝ }
 {
     let number = first.0;
     fill(nonce, 0x80, number, k, tweaks);

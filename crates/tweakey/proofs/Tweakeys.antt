@@ -1,8 +1,8 @@
 -- The schedule that the code makes holds the tweakeys.
-use mathlib.Core.Path.{_≡_, refl, sym, ap, _∙_}
+use mathlib.Core.Path.{_≡_, refl}
 use mathlib.Core.List.{List}
 use mathlib.Core.Bool.{cond}
-use Prim.Native.Nat.{ℕ, zero, suc, _+_, _%_, _<_}
+use Prim.Native.Nat.{ℕ, zero, suc, _%_, _<_}
 use native.Mathlib.Omega.{arith}
 use lib.Dec.{eqb}
 use lib.Bits.{bitXor}
@@ -14,7 +14,8 @@ use Rattle.state.proofs.Words.{rows-are, xor-digits, same-digits}
 use Rattle.rounds.specs.declared.Cipher.{Cipher}
 use Rattle.rounds.specs.declared.Cipher.the-variants.{Scream, IScream}
 use Rattle.tweakey.specs.declared.Schedule.{Schedule}
-use Rattle.tweakey.specs.Schedule.{held, stateAt, tweakeysIn}
+use Rattle.tweakey.specs.Schedule.{Scheduled, held, stateAt, tweakeysIn}
+use Rattle.rounds.specs.Cipher.{parts}
 use Rattle.rounds.specs.Tweakey.{φ, φs, rotated, screamTweakey, iscreamTweakey}
 
 three : (P : ℕ → Type 0) → P 0 → P 1 → P 2 → (n : ℕ) → n < 3 → P n
@@ -23,15 +24,13 @@ three P p q r (suc zero) h = q
 three P p q r (suc (suc zero)) h = r
 three P p q r (suc (suc (suc n))) h = absurd (omega arith)
 
-module _ (h : Schedule) (key tweak : List ℕ) (one : rowsOf (h .first) ≡ addRows key tweak) where
-  pub scream-held : rowsOf (h .second) ≡ addRows key (φ tweak) → rowsOf (h .third) ≡ addRows key (φ (φ tweak))
-      → (σ : ℕ) → tweakeysIn Scream h σ ≡ screamTweakey key tweak σ
-  unfolding tweakeysIn screamTweakey
-  scream-held two-is three-is σ = three (λ (n : ℕ). rowsOf (held h n) ≡ addRows key (φs n tweak)) one two-is three-is (σ % 3) (omega arith)
-
-  pub iscream-held : rowsOf (h .second) ≡ rotated tweak → (σ : ℕ) → tweakeysIn IScream h σ ≡ iscreamTweakey key tweak σ
-  unfolding tweakeysIn iscreamTweakey
-  iscream-held two-is σ = two (λ (n : ℕ). rowsOf (held h n) ≡ cond (eqb n 0) (addRows key tweak) (rotated tweak)) one two-is (σ % 2) (omega arith)
+-- a schedule has the tweakey of each step
+pub tweakeys-held : {c : Cipher} {key tweak : List ℕ} {h : Schedule} → Scheduled c key tweak h → (σ : ℕ) → tweakeysIn c h σ ≡ parts c .tweakey key tweak σ
+unfolding tweakeysIn screamTweakey iscreamTweakey
+tweakeys-held {c = Scream} {key} {tweak} {h} s σ =
+    three (λ (n : ℕ). rowsOf (held h n) ≡ addRows key (φs n tweak)) (s .first) (s .second) (s .third) (σ % 3) (omega arith)
+tweakeys-held {c = IScream} {key} {tweak} {h} s σ =
+    two (λ (n : ℕ). rowsOf (held h n) ≡ cond (eqb n 0) (addRows key tweak) (rotated tweak)) (s .first) (s .second) (σ % 2) (omega arith)
 
 -- which of three, where it is none of the first two
 pub held-third : (h : Schedule) (n : ℕ) → (n ≡ 0 → ⊥) → (n ≡ 1 → ⊥) → h .third ≡ held h n

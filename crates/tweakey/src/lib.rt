@@ -2,9 +2,7 @@
 use rounds::Cipher;
 use state::State;
 ghost use mathlib.Core.Path.{_≡_};
-ghost use Prim.Native.Nat.{ℕ};
-ghost use Rattle.rounds.specs.Cipher.{parts};
-ghost use Rattle.tweakey.specs.Schedule.{held, stateAt, tweakeysIn};
+ghost use Rattle.tweakey.specs.Schedule.{Scheduled, held, stateAt};
 ghost use Rattle.state.specs.State.{rowsOf};
 ghost use Rattle.rounds.specs.Tweakey.{φ, rotated, rotatedRow};
 
@@ -53,7 +51,7 @@ fn rotate_state(t: State) -> State
 
 // The schedule of a key and a tweak.
 pub fn schedule_of(k: Cipher, key: State, tweak: State) -> Schedule
-    ensures { λ r. ⌜ ((σ : ℕ) → tweakeysIn k r σ ≡ parts k .tweakey (rowsOf key) (rowsOf tweak) σ) ⌝ }
+    ensures { λ r. ⌜ Scheduled k (rowsOf key) (rowsOf tweak) r ⌝ }
 {
     let first = state::add(key, tweak);
     match k {

@@ -1,9 +1,9 @@
 -- The loop fills the table from the front.
-use mathlib.Core.Path.{_≡_, refl, _∙_}
+use mathlib.Core.Path.{_≡_, refl}
 use Prim.Native.Nat.{_+_, _*_, _-_, _≤_}
 use native.Mathlib.Omega.{arith}
 use borrow.Author.Needs.{needs}
-use lib.ListN.{getD, length, replicate}
+use lib.ListN.{getD, replicate}
 use Rattle.bits.proofs.Lists.{Filled, filled-none, filled-more, filled-all}
 use Rattle.lbox.specs.Tables.{joined}
 use Rattle.lbox.proofs.join.Statement.{statement}

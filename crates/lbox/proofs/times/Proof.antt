@@ -1,5 +1,5 @@
 -- The loop adds the rows from the last to the first: what it has is the product with the matrix from row i on.
-use mathlib.Core.Path.{_≡_, _∙_}
+use mathlib.Core.Path.{_≡_}
 use Prim.Native.Nat.{_≤_}
 use native.Mathlib.Omega.{arith}
 use borrow.Author.Needs.{needs}

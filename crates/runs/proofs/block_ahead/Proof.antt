@@ -9,7 +9,7 @@ use Rattle.tweakey.specs.Schedule.{tweakeysIn}
 use Rattle.state.specs.Rows.{addRows}
 use Rattle.state.specs.State.{rowsOf}
 use Rattle.runs.proofs.Runs.{ahead-is}
-use Rattle.tweakey.proofs.Tweakeys.{tweakeys-in}
+use Rattle.tweakey.proofs.Tweakeys.{tweakeys-held, tweakeys-in}
 use Rattle.runs.proofs.block_ahead.Statement.{statement}
 use Rattle.runs.proofs.block_ahead.Tie as tie
 
@@ -18,7 +18,7 @@ returns c =
     let a = c .before .before .before .before .before .before .before .before .args in
     let h = c .before .before .before .before .before .schedule-of .result in
     let tk : (σ : ℕ) → tweakeysIn (a .k) h σ ≡ tweakeys (a .k) (a .key) (a .tweak) σ = λ σ.
-    c .before .before .before .before .before .schedule-of .ensures σ ∙ (λ i. parts (a .k) .tweakey (c .before .before .before .before .before .before .before .load .ensures i) (c .before .before .before .before .before .before .load2 .ensures i) σ) in
+    tweakeys-held (c .before .before .before .before .before .schedule-of .ensures) σ ∙ (λ i. parts (a .k) .tweakey (c .before .before .before .before .before .before .before .load .ensures i) (c .before .before .before .before .before .before .load2 .ensures i) σ) in
     let zero : rowsOf (c .before .before .before .tweakey .result) ≡ tweakeysIn (a .k) h 0 = ap rowsOf (c .before .before .before .tweakey .ensures) ∙ sym (tweakeys-in (a .k) h 0) in
     let x : rowsOf (c .before .before .added .result) ≡ cond (a .first) (addRows (rows (a .block)) (tweakeysIn (a .k) h 0)) (rows (a .block)) =
     c .before .before .added .ensures ∙ (λ i. cond (a .first) (addRows (c .before .before .before .before .load3 .ensures i) (zero i)) (c .before .before .before .before .load3 .ensures i)) in

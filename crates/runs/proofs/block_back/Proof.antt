@@ -9,7 +9,7 @@ use Rattle.tweakey.specs.Schedule.{tweakeysIn}
 use Rattle.state.specs.Rows.{addRows}
 use Rattle.state.specs.State.{rowsOf}
 use Rattle.runs.proofs.Runs.{back-is}
-use Rattle.tweakey.proofs.Tweakeys.{tweakeys-in}
+use Rattle.tweakey.proofs.Tweakeys.{tweakeys-held, tweakeys-in}
 use Rattle.runs.proofs.block_back.Statement.{statement}
 use Rattle.runs.proofs.block_back.Tie as tie
 
@@ -18,7 +18,7 @@ returns c =
     let a = c .before .before .before .before .before .before .before .before .args in
     let h = c .before .before .before .before .before .schedule-of .result in
     let tk : (σ : ℕ) → tweakeysIn (a .k) h σ ≡ tweakeys (a .k) (a .key) (a .tweak) σ = λ σ.
-    c .before .before .before .before .before .schedule-of .ensures σ ∙ (λ i. parts (a .k) .tweakey (c .before .before .before .before .before .before .before .load .ensures i) (c .before .before .before .before .before .before .load2 .ensures i) σ) in
+    tweakeys-held (c .before .before .before .before .before .schedule-of .ensures) σ ∙ (λ i. parts (a .k) .tweakey (c .before .before .before .before .before .before .before .load .ensures i) (c .before .before .before .before .before .before .load2 .ensures i) σ) in
     let x = rowsOf (c .before .before .before .steps-back .result) in
     let d : x ≡ unsteps (parts (a .k)) (tweakeysIn (a .k) h) (a .s) (a .n) (rows (a .block)) =
     c .before .before .before .steps-back .ensures ∙ ap (unsteps (parts (a .k)) (tweakeysIn (a .k) h) (a .s) (a .n)) (c .before .before .before .before .load3 .ensures) in

@@ -18,8 +18,11 @@ abbrev μ-loop : tie.MeasureT-loop
 loop-again : tie.Need-loop-again Inv-loop μ-loop
 loop-again c =
     let h = c .before .before in
-    let s = h .before .args .nonce .now in
-    (omega arith, ap (λ t. set t (h .loop .i) (getD s (h .loop .i) 0)) (h .loop .inv .1) ∙ front-more (replicate 16 0) s (h .loop .i) (omega arith) (omega arith))
+    let s = h .before .args .nonce .now in (
+      omega arith,
+      ap (λ t. set t (h .loop .i) (getD s (h .loop .i) 0)) (h .loop .inv .1)
+          ∙ front-more (replicate 16 0) s (h .loop .i) (omega arith) (omega arith),
+    )
 
 returns : tie.Need-returns Inv-loop μ-loop
 returns c =

@@ -30,7 +30,11 @@ module _ (c : tie.At-loop Inv-loop μ-loop) where
       let g : ℕ → List ℕ = λ j. tweak (a .nonce .now) (a .mark) (a .first + j) in
       ap length (c .loop .inv .1)
       ∙ length-append (strung (c .loop .i) g) (drop (16 * c .loop .i) (a .tweaks .now))
-      ∙ omega (arith, strung-whole (c .loop .i) g (λ j l. length-tweak (a .nonce .now) (a .mark) (a .first + j) (omega arith)), length-drop (16 * c .loop .i) (a .tweaks .now))
+      ∙ omega (
+        arith,
+        strung-whole (c .loop .i) g (λ j l. length-tweak (a .nonce .now) (a .mark) (a .first + j) (omega arith)),
+        length-drop (16 * c .loop .i) (a .tweaks .now),
+      )
 
 loop-again : tie.Need-loop-again Inv-loop μ-loop
 loop-again c =

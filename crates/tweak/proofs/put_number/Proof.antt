@@ -7,13 +7,14 @@ use borrow.Author.Needs.{needs}
 use lib.ListN.{length, set, take, drop, length-append, length-drop, take-append-drop}
 use lib.Seq.{length-take-le}
 use Rattle.bits.specs.Bytes.{bigEndian}
-use Rattle.bits.proofs.BigEndian.{length-bigEndian}
-use Rattle.bits.proofs.BigEndian.{number-more, number-rest}
+use Rattle.bits.proofs.BigEndian.{length-bigEndian, number-more, number-rest}
 use Rattle.tweak.proofs.put_number.Statement.{statement}
 use Rattle.tweak.proofs.put_number.Tie as tie
 
 abbrev Inv-loop : tie.InvT-loop
-Inv-loop d₀ at n number x₀ i₀ d x i = (n ≤ i) × (i ≤ 16) × (x ≡ number / 256 ^ (16 - i)) × (d ≡ take (at + i) d₀ ++ (bigEndian (16 - i) number ++ drop (at + 16) d₀))
+Inv-loop d₀ at n number x₀ i₀ d x i =
+    (n ≤ i) × (i ≤ 16) × (x ≡ number / 256 ^ (16 - i))
+    × (d ≡ take (at + i) d₀ ++ (bigEndian (16 - i) number ++ drop (at + 16) d₀))
 
 abbrev μ-loop : tie.MeasureT-loop
 μ-loop d₀ at n number x₀ i₀ d x i = i - n
@@ -25,7 +26,13 @@ kept c =
     let d = a .d .now in
     ap length (c .loop .inv .3)
     ∙ length-append (take (a .at + i) d) (bigEndian (16 - i) (a .number) ++ drop (a .at + 16) d)
-    ∙ omega (arith, length-take-le (a .at + i) d (omega arith), length-append (bigEndian (16 - i) (a .number)) (drop (a .at + 16) d), length-bigEndian (16 - i) (a .number), length-drop (a .at + 16) d)
+    ∙ omega (
+      arith,
+      length-take-le (a .at + i) d (omega arith),
+      length-append (bigEndian (16 - i) (a .number)) (drop (a .at + 16) d),
+      length-bigEndian (16 - i) (a .number),
+      length-drop (a .at + 16) d,
+    )
 
 loop-holds : tie.Need-loop-holds Inv-loop μ-loop
 unfolding bigEndian
@@ -43,7 +50,9 @@ loop-again c =
       omega arith,
       omega arith,
       ap (λ x. x / 256) (h .loop .inv .2) ∙ number-rest (16 - i) v ∙ ap (λ k. v / 256 ^ k) (sym next),
-      (λ j. set ((h .loop .inv .3 ∙ ap (λ k. take k d ++ (bigEndian (16 - i) v ++ drop (a .at + 16) d)) (sym here)) j) (a .at + (i - 1)) (h .loop .inv .2 j % 256))
+      (λ j. set
+          ((h .loop .inv .3 ∙ ap (λ k. take k d ++ (bigEndian (16 - i) v ++ drop (a .at + 16) d)) (sym here)) j)
+          (a .at + (i - 1)) (h .loop .inv .2 j % 256))
           ∙ number-more d (drop (a .at + 16) d) (a .at + (i - 1)) (16 - i) v (omega arith)
           ∙ ap (λ k. take (a .at + (i - 1)) d ++ (bigEndian k v ++ drop (a .at + 16) d)) (sym next),
     )

@@ -3,24 +3,28 @@ use borrow.Author.Needs.{needs}
 use mathlib.Core.Path.{ap, _∙_}
 use Rattle.state.specs.Rows.{addRows}
 use Rattle.state.specs.State.{rowsOf}
-use Rattle.rounds.specs.Tweakey.{φ}
-use Rattle.tweakey.proofs.Tweakeys.{scream-held, iscream-held}
+use Rattle.rounds.specs.Tweakey.{φ, screamTweakey, iscreamTweakey}
 use Rattle.tweakey.proofs.schedule_of.Statement.{statement}
 use Rattle.tweakey.proofs.schedule_of.Tie as tie
 
 returns : tie.Need-returns
-returns c = λ σ.
-    let a = c .before .before .before .before .before .before .before .args in
-    rw (c .before .before .before .before .enum-told .given .1)
-    (scream-held (record { first = c .before .before .before .before .before .before .add .result; second = c .before .before .add2 .result; third = c .add3 .result })
-    (rowsOf (a .key)) (rowsOf (a .tweak)) (c .before .before .before .before .before .before .add .ensures) (c .before .before .add2 .ensures ∙ ap (addRows (rowsOf (a .key))) (c .before .before .before .phi .ensures)) (c .add3 .ensures ∙ ap (addRows (rowsOf (a .key))) (c .before .phi2 .ensures ∙ ap φ (c .before .before .before .phi .ensures))) σ)
+unfolding screamTweakey
+returns c =
+    let p = c .before .before .before in
+    let f = p .before .before .before in
+    let key = rowsOf (f .before .args .key) in
+    rw (p .before .enum-told .given .1)
+    (record {
+      first = f .add .ensures;
+      second = c .before .before .add2 .ensures ∙ ap (addRows key) (p .phi .ensures);
+      third = c .add3 .ensures ∙ ap (addRows key) (c .before .phi2 .ensures ∙ ap φ (p .phi .ensures));
+    })
 
 returns-2 : tie.Need-returns-2
-returns-2 c = λ σ.
-    let a = c .before .before .before .before .args in
-    rw (c .before .enum-told2 .given .1)
-    (iscream-held (record { first = c .before .before .before .add .result; second = c .rotate-state .result; third = c .before .before .before .add .result })
-    (rowsOf (a .key)) (rowsOf (a .tweak)) (c .before .before .before .add .ensures) (c .rotate-state .ensures) σ)
+unfolding iscreamTweakey
+returns-2 c =
+    let f = c .before .before .before in
+    rw (c .before .enum-told2 .given .1) (record { first = f .add .ensures; second = c .rotate-state .ensures; third = f .add .ensures })
 
 pub schedule-of-spec : {M : Type 1} → statement M
 schedule-of-spec =
