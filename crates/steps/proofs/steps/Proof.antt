@@ -27,7 +27,7 @@ add-two-rounds : tie.Need-add-two-rounds Inv-loop μ-loop
 add-two-rounds c = omega arith
 
 two-rounds-requires : tie.Need-two-rounds-requires Inv-loop μ-loop
-two-rounds-requires c κs = (omega arith, c .before .before .before .pre .1)
+two-rounds-requires c κs = record { few = omega arith; tables = c .before .before .before .pre .tables }
 
 add-tweakey : tie.Need-add-tweakey Inv-loop μ-loop
 add-tweakey c = omega arith

@@ -33,7 +33,7 @@ add-two-rounds-back : tie.Need-add-two-rounds-back Inv-loop μ-loop
 add-two-rounds-back c = omega arith
 
 two-rounds-back-requires : tie.Need-two-rounds-back-requires Inv-loop μ-loop
-two-rounds-back-requires c κs = (omega arith, c .before .before .before .before .before .pre .1)
+two-rounds-back-requires c κs = record { few = omega arith; tables = c .before .before .before .before .before .pre .tables }
 
 loop-less : tie.Need-loop-less Inv-loop μ-loop
 loop-less c = omega arith

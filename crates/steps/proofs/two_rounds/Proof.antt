@@ -35,7 +35,7 @@ element-copy-out-wide c = omega arith
 
 round-requires : tie.Need-round-requires Inv-loop μ-loop
 round-requires c κs =
-    let t = c .before .before .before .before .pre .1 in
+    let t = c .before .before .before .before .pre .tables in
     (t .low-are, t .high-are)
 
 add-p : tie.Need-add-p Inv-loop μ-loop
@@ -48,7 +48,7 @@ loop-again : tie.Need-loop-again Inv-loop μ-loop
 loop-again c =
     let h = c .before .before .before .before in
     let a = h .before .args in
-    let v = constant-at (a .c .now) (h .before .pre .1 .constants-are) (2 * a .s + h .loop .p + 1) (omega arith) in
+    let v = constant-at (a .c .now) (h .before .pre .tables .constants-are) (2 * a .s + h .loop .p + 1) (omega arith) in
     let q = parts (a .k) in
     let r = c .before .wide .result in (
       omega arith,

@@ -34,7 +34,7 @@ element-copy-out-wide c = omega arith
 
 round-back-requires : tie.Need-round-back-requires Inv-loop μ-loop
 round-back-requires c κs =
-    let t = c .before .before .before .before .pre .1 in
+    let t = c .before .before .before .before .pre .tables in
     (t .low-are, t .high-are)
 
 loop-less : tie.Need-loop-less Inv-loop μ-loop
@@ -44,7 +44,7 @@ loop-again : tie.Need-loop-again Inv-loop μ-loop
 loop-again c =
     let h = c .before .before .before .before in
     let a = h .before .args in
-    let v = constant-at (a .c .now) (h .before .pre .1 .constants-are) (2 * a .s + (h .loop .p - 1) + 1) (omega arith) in
+    let v = constant-at (a .c .now) (h .before .pre .tables .constants-are) (2 * a .s + (h .loop .p - 1) + 1) (omega arith) in
     let q = parts (a .k) in (
       omega arith,
       ap (unturns q (a .s) (h .loop .p - 1)) (c .round-back .ensures)
