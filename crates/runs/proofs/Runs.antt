@@ -11,6 +11,11 @@ use Rattle.bits.specs.Table.{tab}
 use Rattle.bits.proofs.Lists.{length-tab}
 use Rattle.sbox.specs.Sbox
 use Rattle.rounds.specs.declared.Cipher.{Cipher}
+use Rattle.tweakey.specs.declared.Schedule.{Schedule}
+use Rattle.tweakey.specs.Schedule.{stateAt, tweakeysIn}
+use Rattle.tweakey.proofs.Tweakeys.{tweakeys-in}
+use Rattle.state.specs.declared.State.{State}
+use Rattle.state.specs.State.{rowsOf}
 use Rattle.state.specs.Block.{rows, bytes}
 use Rattle.state.specs.Rows.{addRows}
 use Rattle.rounds.specs.Cipher.{Parts, parts, unround, step, unstep, steps, unsteps, tweakeys, encipher, decipher, stepped, unstepped}
@@ -19,20 +24,29 @@ use Rattle.blockwise.specs.Blocks.{eachBlock}
 use Rattle.blockwise.proofs.Each.{Blockwise, each-one}
 use Rattle.state.proofs.Trips.{rows-long, bytes-long}
 
--- a run of a block, from rows that the code has
-pub ahead-is : (c : Cipher) (s n : ℕ) (first : Bool) (key tweak b : List ℕ) (tk : ℕ → List ℕ) → ((σ : ℕ) → tk σ ≡ tweakeys c key tweak σ)
-    → (x : List ℕ) → x ≡ cond first (addRows (rows b) (tk 0)) (rows b) → bytes (steps (parts c) tk s n x) ≡ aheadBlock c s n first key tweak b
-unfolding aheadBlock
-ahead-is c s n first key tweak b tk e x d =
-    ap (λ (x : List ℕ). bytes (steps (parts c) tk s n x)) d
-    ∙ ap (λ (tk : ℕ → List ℕ). bytes (steps (parts c) tk s n (cond first (addRows (rows b) (tk 0)) (rows b)))) (fun-ext e)
+-- a run of a block, from what the code has: the rows of key, tweak and block, a schedule, and its first tweakey
+module _ (c : Cipher) (s n : ℕ) (wanted : Bool) (key tweak b : List ℕ) (h : Schedule) {k t x : List ℕ} {first : State}
+    (made : (σ : ℕ) → tweakeysIn c h σ ≡ parts c .tweakey k t σ) (ek : k ≡ rows key) (et : t ≡ rows tweak)
+    (ef : first ≡ stateAt c h 0) (ex : x ≡ rows b) where
+  tk : tweakeysIn c h ≡ tweakeys c key tweak
+  tk = fun-ext (λ σ. made σ ∙ (λ i. parts c .tweakey (ek i) (et i) σ))
 
-pub back-is : (c : Cipher) (s n : ℕ) (last : Bool) (key tweak b : List ℕ) (tk : ℕ → List ℕ) → ((σ : ℕ) → tk σ ≡ tweakeys c key tweak σ)
-    → (x : List ℕ) → x ≡ unsteps (parts c) tk s n (rows b) → bytes (cond last (addRows x (tk 0)) x) ≡ backBlock c s n last key tweak b
-unfolding backBlock
-back-is c s n last key tweak b tk e x d =
-    ap (λ (x : List ℕ). bytes (cond last (addRows x (tk 0)) x)) d
-    ∙ ap (λ (tk : ℕ → List ℕ). let y : List ℕ = unsteps (parts c) tk s n (rows b) in bytes (cond last (addRows y (tk 0)) y)) (fun-ext e)
+  tk-first : rowsOf first ≡ tweakeys c key tweak 0
+  tk-first = ap rowsOf ef ∙ sym (tweakeys-in c h 0) ∙ (λ i. tk i 0)
+
+  pub ahead-is : {y z : List ℕ} → y ≡ cond wanted (addRows x (rowsOf first)) x → z ≡ steps (parts c) (tweakeysIn c h) s n y
+      → bytes z ≡ aheadBlock c s n wanted key tweak b
+  unfolding aheadBlock
+  ahead-is ey ez =
+      let e = ey ∙ (λ i. cond wanted (addRows (ex i) (tk-first i)) (ex i)) in
+      ap bytes ez ∙ (λ i. bytes (steps (parts c) (tk i) s n (e i)))
+
+  pub back-is : {y z : List ℕ} → y ≡ unsteps (parts c) (tweakeysIn c h) s n x → z ≡ cond wanted (addRows y (rowsOf first)) y
+      → bytes z ≡ backBlock c s n wanted key tweak b
+  unfolding backBlock
+  back-is ey ez =
+      let e = ey ∙ (λ i. unsteps (parts c) (tk i) s n (ex i)) in
+      ap bytes ez ∙ (λ i. bytes (cond wanted (addRows (e i) (tk-first i)) (e i)))
 
 -- from the start
 pub encipher-run : (c : Cipher) (n : ℕ) (key tweak b : List ℕ) → aheadBlock c 0 n true key tweak b ≡ encipher c n key tweak b
