@@ -19,8 +19,7 @@ use Rattle.state.specs.State.{rowsOf}
 use Rattle.state.specs.Block.{rows, bytes}
 use Rattle.state.specs.Rows.{addRows}
 use Rattle.rounds.specs.Cipher.{Parts, parts, unround, step, unstep, steps, unsteps, tweakeys, encipher, decipher, stepped, unstepped}
-use Rattle.runs.specs.Run.{aheadBlock, backBlock}
-use Rattle.blockwise.specs.Blocks.{eachBlock}
+use Rattle.runs.specs.Run.{aheadBlock, backBlock, eachUpTo14}
 use Rattle.blockwise.proofs.Each.{Blockwise, each-one}
 use Rattle.state.proofs.Trips.{rows-long, bytes-long}
 
@@ -116,15 +115,14 @@ limit-of-one s =
     let e : s + 1 ≡ suc s = omega arith in
     ap (λ (k : ℕ). leb k 14) e
 
-module _ (c : Cipher) (s : ℕ) (key t b : List ℕ) (ht : length t ≡ 16) (hb : length b ≡ 16) where
-  pub stepped-run : cond (leb (s + 1) 14) (eachBlock (aheadBlock c s 1 false key) t b) b ≡ stepped c s key t b
-  unfolding stepped
-  stepped-run =
-      ap (λ (l : Bool). cond l (eachBlock (aheadBlock c s 1 false key) t b) b) (limit-of-one s)
-      ∙ ap (λ (x : List ℕ). cond (ltb s 14) x b) (each-one (aheadBlock c s 1 false key) t b ht hb ∙ step-run c s key t b)
+module _ (s : ℕ) (t b : List ℕ) (ht : length t ≡ 16) (hb : length b ≡ 16) where
+  run-of-one : (f : List ℕ → List ℕ → List ℕ) {x : List ℕ} → f t b ≡ x → eachUpTo14 (s + 1) f t b ≡ cond (ltb s 14) x b
+  run-of-one f e = λ i. cond (limit-of-one s i) ((each-one f t b ht hb ∙ e) i) b
 
-  pub unstepped-run : cond (leb (s + 1) 14) (eachBlock (backBlock c s 1 false key) t b) b ≡ unstepped c s key t b
+  pub stepped-run : (c : Cipher) (key : List ℕ) → eachUpTo14 (s + 1) (aheadBlock c s 1 false key) t b ≡ stepped c s key t b
+  unfolding stepped
+  stepped-run c key = run-of-one (aheadBlock c s 1 false key) (step-run c s key t b)
+
+  pub unstepped-run : (c : Cipher) (key : List ℕ) → eachUpTo14 (s + 1) (backBlock c s 1 false key) t b ≡ unstepped c s key t b
   unfolding unstepped
-  unstepped-run =
-      ap (λ (l : Bool). cond l (eachBlock (backBlock c s 1 false key) t b) b) (limit-of-one s)
-      ∙ ap (λ (x : List ℕ). cond (ltb s 14) x b) (each-one (backBlock c s 1 false key) t b ht hb ∙ unstep-run c s key t b)
+  unstepped-run c key = run-of-one (backBlock c s 1 false key) (unstep-run c s key t b)
