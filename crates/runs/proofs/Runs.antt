@@ -2,13 +2,11 @@
 use mathlib.Core.Path.{_≡_, refl, sym, ap, fun-ext, _∙_}
 use mathlib.Core.List.{List}
 use mathlib.Core.Bool.{Bool, true, false, cond}
-use Prim.Native.Nat.{ℕ, zero, suc, _+_, _*_, _≤_, _<_}
+use Prim.Native.Nat.{ℕ, zero, suc, _+_, _*_}
 use native.Mathlib.Nat.{add-zero}
 use native.Mathlib.Omega.{arith}
 use lib.Dec.{leb, ltb}
-use lib.ListN.{length, getD}
-use Rattle.bits.specs.Table.{tab}
-use Rattle.bits.proofs.Lists.{length-tab}
+use lib.ListN.{length}
 use Rattle.sbox.specs.Sbox
 use Rattle.rounds.specs.declared.Cipher.{Cipher}
 use Rattle.tweakey.specs.declared.Schedule.{Schedule}

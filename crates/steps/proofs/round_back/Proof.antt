@@ -1,6 +1,5 @@
 -- By what it calls; rows looked up are the L-box layer.
 use mathlib.Core.Path.{ap, _∙_}
-use mathlib.Core.List.{List}
 use Prim.Native.Nat.{ℕ, _^_, _<_}
 use borrow.Author.Needs.{needs}
 use lib.ListN.{getD}
