@@ -21,7 +21,7 @@ use Rattle.suites.specs.Suite.{listed, cipherOf}
 use Rattle.cipher.specs.Entry.{enciphered, deciphered, encipheredBlocks, decipheredBlocks}
 
 -- no suite has more than 14 steps
-pub listed-steps : (cipher n : ℕ) → listed cipher n ≡ true → n ≤ 14
+listed-steps : (cipher n : ℕ) → listed cipher n ≡ true → n ≤ 14
 listed-steps cipher n e =
     either (eqb cipher 1 && four 6 8 10 12) (eqb cipher 2 && four 8 10 12 14)
     (λ h. among 6 8 10 12 (lit≤ tt) (lit≤ tt) (lit≤ tt) (lit≤ tt) (second (eqb cipher 1) (four 6 8 10 12) h))
@@ -48,23 +48,25 @@ listed-steps cipher n e =
         (either (eqb n a || eqb n b) (eqb n c) (either (eqb n a) (eqb n b) (is a ha) (is b hb)) (is c hc))
         (is d hd)
 
--- Many blocks under a suite, which are done by runs; `f` is a block's run under a cipher, `g` what it is by definition.
-module _ (f g : Cipher → List ℕ → List ℕ → List ℕ) (same : (c : Cipher) (t b : List ℕ) → f c t b ≡ g c t b) (cipher n : ℕ) (t b : List ℕ) where
+-- Many blocks under a suite, which are done by runs; `f` is a block's run, `g` what it is by definition.
+module _ (f g : Cipher → ℕ → List ℕ → List ℕ → List ℕ → List ℕ)
+    (same : (c : Cipher) (n : ℕ) (key t b : List ℕ) → f c n key t b ≡ g c n key t b) (cipher n : ℕ) (key t b : List ℕ) where
   abbrev under : Bool → List ℕ
-  under l = cond l (eachBlock (g (cipherOf cipher)) t b) b
+  under l = cond l (eachBlock (g (cipherOf cipher) n key) t b) b
 
   abbrev answer : Bool → Answer
   answer l = cond l Done (Refused SuiteNotListed)
 
-  pub listed-run : listed cipher n ≡ true → {c : Cipher} → c ≡ cipherOf cipher → {x : List ℕ} → x ≡ eachUpTo14 (0 + n) (f c) t b
+  pub unlisted-run : listed cipher n ≡ false → (Refused SuiteNotListed ≡ answer (listed cipher n)) × (b ≡ under (listed cipher n))
+  unlisted-run e = (ap answer (sym e), ap under (sym e))
+
+  pub listed-run : listed cipher n ≡ true → {c : Cipher} → c ≡ cipherOf cipher → {x : List ℕ} → x ≡ eachUpTo14 (0 + n) (f c n key) t b
       → (Done ≡ answer (listed cipher n)) × (x ≡ under (listed cipher n))
   listed-run e {c} ec ex =
       let few : leb (0 + n) 14 ≡ true = le-leb (0 + n) 14 (omega (arith, listed-steps cipher n e)) in
-      let each : eachBlock (f c) t b ≡ eachBlock (g (cipherOf cipher)) t b = ap (λ (c : Cipher). eachBlock (f c) t b) ec ∙ each-ext (same (cipherOf cipher)) t b in
+      let each : eachBlock (f c n key) t b ≡ eachBlock (g (cipherOf cipher) n key) t b =
+      ap (λ (k : Cipher). eachBlock (f k n key) t b) ec ∙ each-ext (same (cipherOf cipher) n key) t b in
       (ap answer (sym e), ex ∙ (λ i. cond (few i) (each i) b) ∙ ap under (sym e))
-
-  pub unlisted-run : listed cipher n ≡ false → (Refused SuiteNotListed ≡ answer (listed cipher n)) × (b ≡ under (listed cipher n))
-  unlisted-run e = (ap answer (sym e), ap under (sym e))
 
 -- many blocks that are one
 module _ (cipher n : ℕ) (key t b : List ℕ) (ht : length t ≡ 16) (hb : length b ≡ 16) where

@@ -55,11 +55,11 @@ unfolding backBlock decipher
 decipher-run c n key tweak b = refl
 
 -- one step
-pub step-run : (c : Cipher) (s : ℕ) (key tweak b : List ℕ) → aheadBlock c s 1 false key tweak b ≡ bytes (step (parts c) (tweakeys c key tweak) s (rows b))
+step-run : (c : Cipher) (s : ℕ) (key tweak b : List ℕ) → aheadBlock c s 1 false key tweak b ≡ bytes (step (parts c) (tweakeys c key tweak) s (rows b))
 unfolding aheadBlock steps
 step-run c s key tweak b = ap (λ (k : ℕ). bytes (step (parts c) (tweakeys c key tweak) k (rows b))) (add-zero s)
 
-pub unstep-run : (c : Cipher) (s : ℕ) (key tweak b : List ℕ) → backBlock c s 1 false key tweak b ≡ bytes (unstep (parts c) (tweakeys c key tweak) s (rows b))
+unstep-run : (c : Cipher) (s : ℕ) (key tweak b : List ℕ) → backBlock c s 1 false key tweak b ≡ bytes (unstep (parts c) (tweakeys c key tweak) s (rows b))
 unfolding backBlock unsteps
 unstep-run c s key tweak b = ap (λ (k : ℕ). bytes (unstep (parts c) (tweakeys c key tweak) k (rows b))) (add-zero s)
 

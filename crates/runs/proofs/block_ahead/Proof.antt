@@ -11,8 +11,8 @@ returns c =
     let a = h .before .before .before .args in
     c .store .ensures
     ∙ ahead-is (a .k) (a .s) (a .n) (a .first) (a .key) (a .tweak) (a .block) (h .schedule-of .result) (h .schedule-of .ensures)
-    (h .before .before .load .ensures) (h .before .load2 .ensures) (c .before .before .before .tweakey .ensures) (c .before .before .before .before .load3 .ensures)
-    (c .before .before .added .ensures) (c .before .steps .ensures)
+    (h .before .before .load .ensures) (h .before .load2 .ensures) (c .before .before .before .tweakey .ensures)
+    (c .before .before .before .before .load3 .ensures) (c .before .before .added .ensures) (c .before .steps .ensures)
 
 pub block-ahead-spec : {M : Type 1} → statement M
 block-ahead-spec =

@@ -11,8 +11,8 @@ returns c =
     let a = h .before .before .before .args in
     c .store .ensures
     ∙ back-is (a .k) (a .s) (a .n) (a .last) (a .key) (a .tweak) (a .block) (h .schedule-of .result) (h .schedule-of .ensures)
-    (h .before .before .load .ensures) (h .before .load2 .ensures) (c .before .before .tweakey .ensures) (c .before .before .before .before .load3 .ensures)
-    (c .before .before .before .steps-back .ensures) (c .before .added .ensures)
+    (h .before .before .load .ensures) (h .before .load2 .ensures) (c .before .before .tweakey .ensures)
+    (c .before .before .before .before .load3 .ensures) (c .before .before .before .steps-back .ensures) (c .before .added .ensures)
 
 pub block-back-spec : {M : Type 1} → statement M
 block-back-spec =

@@ -17,8 +17,7 @@ returns c =
     let h = c .before in
     let a = h .before .before .before .args in
     let s = a .suite in
-    unlisted-run (λ k. aheadBlock k 0 (s .steps) true (a .key)) (λ k. encipher k (s .steps) (a .key)) (λ k. encipher-run k (s .steps) (a .key))
-    (s .cipher) (s .steps) (a .tweaks .now) (a .blocks .now)
+    unlisted-run (λ k n. aheadBlock k 0 n true) encipher encipher-run (s .cipher) (s .steps) (a .key) (a .tweaks .now) (a .blocks .now)
     (sym (h .is-listed .ensures) ∙ not-true (h .is-listed .result) (c .if1 .taken))
 
 returns-2 : tie.Need-returns-2
@@ -29,8 +28,7 @@ returns-2 c =
     let h = l .before in
     let a = h .before .before .before .args in
     let s = a .suite in
-    listed-run (λ k. aheadBlock k 0 (s .steps) true (a .key)) (λ k. encipher k (s .steps) (a .key)) (λ k. encipher-run k (s .steps) (a .key))
-    (s .cipher) (s .steps) (a .tweaks .now) (a .blocks .now)
+    listed-run (λ k n. aheadBlock k 0 n true) encipher encipher-run (s .cipher) (s .steps) (a .key) (a .tweaks .now) (a .blocks .now)
     (sym (h .is-listed .ensures) ∙ not-false (h .is-listed .result) (l .if1 .left))
     (k .cipher-of .ensures) (c .before .before .run-ahead .ensures)
 
