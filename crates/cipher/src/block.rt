@@ -15,7 +15,8 @@ pub struct Outcome {
 
 // The block enciphered, or refusal 1 and the block as it was.
 pub fn encipher(suite: Suite, key: [u8; 16], tweak: [u8; 16], block: [u8; 16]) -> Outcome
-    ensures { λ r. ⌜ (r .answer ≡ suiteAnswer (suite .cipher) (suite .steps)) × (r .block ≡ enciphered (suite .cipher) (suite .steps) key tweak block) ⌝ }
+    ensures { λ r. ⌜ (r .answer ≡ suiteAnswer (suite .cipher) (suite .steps))
+        × (r .block ≡ enciphered (suite .cipher) (suite .steps) key tweak block) ⌝ }
 {
     let mut b = block;
     let answer = crate::blocks::encipher_blocks(suite, key, &tweak, &mut b);
@@ -24,7 +25,8 @@ pub fn encipher(suite: Suite, key: [u8; 16], tweak: [u8; 16], block: [u8; 16]) -
 
 // The block deciphered, or refusal 1 and the block as it was.
 pub fn decipher(suite: Suite, key: [u8; 16], tweak: [u8; 16], block: [u8; 16]) -> Outcome
-    ensures { λ r. ⌜ (r .answer ≡ suiteAnswer (suite .cipher) (suite .steps)) × (r .block ≡ deciphered (suite .cipher) (suite .steps) key tweak block) ⌝ }
+    ensures { λ r. ⌜ (r .answer ≡ suiteAnswer (suite .cipher) (suite .steps))
+        × (r .block ≡ deciphered (suite .cipher) (suite .steps) key tweak block) ⌝ }
 {
     let mut b = block;
     let answer = crate::blocks::decipher_blocks(suite, key, &tweak, &mut b);

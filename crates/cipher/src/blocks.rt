@@ -9,7 +9,8 @@ ghost use Rattle.suites.specs.Suite.{suiteAnswer};
 // Enciphers every whole block that both slices have, each in place under its own tweak. All other bytes stay, and a suite
 // that is not listed changes nothing.
 pub fn encipher_blocks(suite: Suite, key: [u8; 16], tweaks: &[u8], blocks: &mut [u8]) -> Answer
-    ensures { λ r. ⌜ (r ≡ suiteAnswer (suite .cipher) (suite .steps)) × (now (blocks .exit) ≡ encipheredBlocks (suite .cipher) (suite .steps) key (now (tweaks .entry)) (now (blocks .entry))) ⌝ }
+    ensures { λ r. ⌜ (r ≡ suiteAnswer (suite .cipher) (suite .steps))
+        × (now (blocks .exit) ≡ encipheredBlocks (suite .cipher) (suite .steps) key (now (tweaks .entry)) (now (blocks .entry))) ⌝ }
 {
     if !suite.is_listed() {
         return Answer::Refused(Refusal::SuiteNotListed);
@@ -22,7 +23,8 @@ pub fn encipher_blocks(suite: Suite, key: [u8; 16], tweaks: &[u8], blocks: &mut 
 // Deciphers every whole block that both slices have, each in place under its own tweak. All other bytes stay, and a suite
 // that is not listed changes nothing.
 pub fn decipher_blocks(suite: Suite, key: [u8; 16], tweaks: &[u8], blocks: &mut [u8]) -> Answer
-    ensures { λ r. ⌜ (r ≡ suiteAnswer (suite .cipher) (suite .steps)) × (now (blocks .exit) ≡ decipheredBlocks (suite .cipher) (suite .steps) key (now (tweaks .entry)) (now (blocks .entry))) ⌝ }
+    ensures { λ r. ⌜ (r ≡ suiteAnswer (suite .cipher) (suite .steps))
+        × (now (blocks .exit) ≡ decipheredBlocks (suite .cipher) (suite .steps) key (now (tweaks .entry)) (now (blocks .entry))) ⌝ }
 {
     if !suite.is_listed() {
         return Answer::Refused(Refusal::SuiteNotListed);

@@ -9,8 +9,8 @@ use lib.Dec.{eqb, leb}
 use lib.ListN.{length, getD, take, drop, length-append, length-drop, take-append-drop}
 use lib.Seq.{take-at, drop-at, drop-cons, drop-drop, length-take-le}
 use Rattle.bits.specs.Bytes.{Bytes, bigEndian}
-use Rattle.bits.proofs.BigEndian.{bytes-bigEndian, bigEndian-numberOf, numberOf-bigEndian}
-use Rattle.bits.proofs.Bytes.{bytes-cons, bytes-append, bytes-take, bytes-drop}
+use Rattle.bits.proofs.BigEndian.{bigEndian-numberOf, numberOf-bigEndian}
+use Rattle.bits.proofs.Bytes.{bytes-take, bytes-drop}
 use Rattle.fields.specs.Field.{fieldHead, field, fieldLength, hasField, fieldValue, afterField}
 
 -- strings that start with strings of one length
@@ -20,7 +20,7 @@ append-inj p₁ p₂ {q₁} {q₂} l e = (
   sym (drop-at p₁ q₁ (length p₂) l) ∙ ap (drop (length p₂)) e ∙ drop-at p₂ q₂ (length p₂) refl,
 )
 
--- lengths and bytes
+-- lengths
 
 pub length-fieldHead : (tag n : ℕ) → length (fieldHead tag n) ≡ 3
 unfolding fieldHead bigEndian
@@ -29,11 +29,6 @@ length-fieldHead tag n = refl
 pub length-field : (tag : ℕ) (v : List ℕ) → length (field tag v) ≡ 3 + length v
 unfolding field
 length-field tag v = length-append (fieldHead tag (length v)) v ∙ ap (λ (n : ℕ). n + length v) (length-fieldHead tag (length v))
-
-pub bytes-field : (tag : ℕ) (v : List ℕ) → tag < 256 → Bytes v → Bytes (field tag v)
-unfolding field fieldHead
-bytes-field tag v h b =
-    bytes-append (tag ∷ bigEndian 2 (length v)) v (bytes-cons tag (bigEndian 2 (length v)) h (bytes-bigEndian 2 (length v))) b
 
 -- a field that is written is read back
 

@@ -3,7 +3,8 @@ use mathlib.Core.Path.{_≡_, refl, sym, ap, _∙_}
 use mathlib.Core.HLevel.{⊥-prop}
 use mathlib.Core.Bool.{Bool, true, false, cond}
 use mathlib.Core.Logic.{_≢_, Or·elim}
-use mathlib.Core.List.{List, [], _∷_, _++_, map, map-append, append-cancel-left, List·Mem, not-mem-nil, mem-append, Disjoint, List·Nodup, nodup-nil, nodup-append}
+use mathlib.Core.List.{List, [], _∷_, _++_, map, map-append, append-cancel-left}
+use mathlib.Core.List.{List·Mem, not-mem-nil, mem-append, Disjoint, List·Nodup, nodup-nil, nodup-append}
 use Prim.Native.Nat.{ℕ, suc, _+_, _^_, _≤_, _<_}
 use native.Mathlib.Nat.{zero-lt-suc, add-zero, le-trans, pow-le-pow-right}
 use native.Mathlib.Omega.{arith}

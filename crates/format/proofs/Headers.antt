@@ -1,8 +1,7 @@
 -- Laws of the headers of kinds and of a book's opening fields.
 use mathlib.Core.Path.{_≡_, refl, sym, _∙_}
 use mathlib.Core.List.{List, [], _∷_, _++_, append-assoc, head-eq-of-cons-eq, tail-eq-of-cons-eq}
-use Prim.Native.Nat.{ℕ, _+_, _^_, _≤_, _<_}
-use native.Mathlib.Omega.{arith}
+use Prim.Native.Nat.{ℕ, _+_, _^_, _<_}
 use lib.ListN.{length, length-append}
 use Rattle.bits.specs.Bytes.{bigEndian}
 use Rattle.bits.proofs.BigEndian.{length-bigEndian, bigEndian-inj}
@@ -31,22 +30,6 @@ module _ (kind : Kind) (n₁ n₂ : ℕ) where
   pub unitHeader-no-close : WellFormed kind → (d r₁ r₂ : List ℕ) → unitHeader kind n₁ d ++ r₁ ≡ closeHeader kind n₂ ++ r₂ → ⊥
   unfolding unitHeader closeHeader field fieldHead
   unitHeader-no-close wf d r₁ r₂ e = wf .tagsDiffer (head-eq-of-cons-eq e)
-
-  module _ (wf : WellFormed kind) (h₁ : n₁ ≤ kind .unitLimit) (h₂ : n₂ ≤ kind .unitLimit) where
-    number-inj : bigEndian (kind .numberBytes) n₁ ≡ bigEndian (kind .numberBytes) n₂ → n₁ ≡ n₂
-    number-inj e = let fit = wf .numbersFit in bigEndian-inj (kind .numberBytes) (omega arith) (omega arith) e
-
-    pub unitHeader-inj : (d₁ d₂ : List ℕ) {r₁ r₂ : List ℕ} → length d₁ ≡ length d₂ → unitHeader kind n₁ d₁ ++ r₁ ≡ unitHeader kind n₂ d₂ ++ r₂
-        → (n₁ ≡ n₂) × (d₁ ≡ d₂) × (r₁ ≡ r₂)
-    unitHeader-inj d₁ d₂ l e = let p = unitHeader-parts d₁ d₂ l e in (number-inj (p .0), p .1, p .2)
-
-    pub closeHeader-inj : {r₁ r₂ : List ℕ} → closeHeader kind n₁ ++ r₁ ≡ closeHeader kind n₂ ++ r₂ → (n₁ ≡ n₂) × (r₁ ≡ r₂)
-    unfolding closeHeader
-    closeHeader-inj {r₁} {r₂} e =
-        let b₁ = bigEndian (kind .numberBytes) n₁ in
-        let b₂ = bigEndian (kind .numberBytes) n₂ in
-        let f = field-same (kind .closeTag) (kind .closeTag) b₁ b₂ {r₁ = r₁} {r₂ = r₂} (length-bigEndian (kind .numberBytes) n₁ ∙ sym (length-bigEndian (kind .numberBytes) n₂)) e in
-        (number-inj (f .1), f .2)
 
 -- the opening fields say suite and number
 pub openingFields-inj : (s₁ s₂ : Suite) (n₁ n₂ : ℕ) {r₁ r₂ : List ℕ} → n₁ < 2 ^ 64 → n₂ < 2 ^ 64

@@ -20,20 +20,21 @@ use Rattle.format.specs.Layout.{sealedFields}
 use Rattle.format.specs.Sealings.{Sealing, openingFields, sealedBytes, sealingCalls}
 use Rattle.sealing.proofs.Sealed.{length-sealed}
 use Rattle.format.proofs.Lengths.{length-openingFields}
-use Rattle.frames.specs.Parts.{callCount, Within, tagApart}
+use Rattle.frames.specs.Parts.{callCount, Within, tagApart, Put, PutSealed, sealingOf}
 use Rattle.format.proofs.Behind.{copied, later, behind}
 
 -- the header of a unit or a close, n bytes, behind the opening fields
-module _ (suite : Suite) (number n : ℕ) (head : List ℕ) (r : Along) {m : ℕ} (a : AlongOf (openingFields suite number ++ head) m r) (long : r .len ≡ 16 + n) where
+module _ (suite : Suite) (number n : ℕ) (head : List ℕ) (r : Along) {m : ℕ}
+    (a : AlongOf (openingFields suite number ++ head) m r) (long : r .len ≡ 16 + n) where
   length-along : length (take (r .len) (r .bytes)) ≡ r .len
   length-along = length-take-le (r .len) (r .bytes) (a .fits)
 
-  pub length-head : length head ≡ n
+  length-head : length head ≡ n
   length-head =
       omega (arith, length-along, ap length (a .is), length-append (openingFields suite number) head, length-openingFields suite number)
 
   -- copied to the start of an output
-  pub head-put : (out x : List ℕ) → let h = take (r .len - 16) (drop 16 (r .bytes)) in x ≡ h ++ drop (length h) out → x ≡ head ++ drop n out
+  head-put : (out x : List ℕ) → let h = take (r .len - 16) (drop 16 (r .bytes)) in x ≡ h ++ drop (length h) out → x ≡ head ++ drop n out
   head-put out x e =
       let k : ℕ = r .len - 16 in
       let all : 16 + k ≡ r .len = omega arith in
@@ -44,15 +45,21 @@ module _ (suite : Suite) (number n : ℕ) (head : List ℕ) (r : Along) {m : ℕ
       ∙ drop-at (openingFields suite number) head 16 (length-openingFields suite number) in
       copied n head (take k (drop 16 (r .bytes))) out x length-head is e
 
--- a sealing under the nonce and the header that are made for it
-module _ (s : Sealing) (nonce header : List ℕ) (n : nonce ≡ s .nonce) (h : header ≡ s .header) where
-  pub calls-are : (r : ℕ) → r ≡ length (calls nonce header (s .text)) → r ≡ length (sealingCalls s)
-  unfolding sealingCalls
-  calls-are r e = e ∙ (λ j. length (calls (n j) (h j) (s .text)))
-
-  pub sealed-are : (suite : Suite) (key : List ℕ) → sealed (suite .cipher) (suite .steps) key nonce header (s .text) ≡ sealedBytes suite key s
-  unfolding sealedBytes
-  sealed-are suite key = λ j. sealed (suite .cipher) (suite .steps) key (n j) (h j) (s .text)
+  -- and k bytes behind it, which f makes of the sealing's sealed bytes
+  pub framed : {nonce y : List ℕ} {c : ℕ} (key : List ℕ) (s : Sealing) → openingFields suite number ++ head ≡ s .header → nonce ≡ s .nonce
+      → (out x : List ℕ) → let h = take (r .len - 16) (drop 16 (r .bytes)) in x ≡ h ++ drop (length h) out
+      → (f : List ℕ → List ℕ) (k end : ℕ) → n + k ≡ end
+      → let q = take (length x - n) (drop n x) in PutSealed suite key (sealingOf nonce (take (r .len) (r .bytes)) (s .text)) f k q y c
+      → Put s (head ++ f (sealedBytes suite key s)) end out (take n x ++ (y ++ drop (length x - n) (drop n x))) c
+  framed {nonce} {y} key s eh en out x e f k end h p =
+      let made : Sealing = sealingOf nonce (take (r .len) (r .bytes)) (s .text) in
+      let same : made ≡ s = λ j. record { nonce = en j; header = (a .is ∙ eh) j; text = s .text } in
+      record {
+        calls = p .calls ∙ ap (λ (z : Sealing). length (sealingCalls z)) same;
+        is =
+            behind n head out x length-head (head-put out x e) k end h (λ q. f (sealedBytes suite key made)) y (p .is)
+            ∙ ap (λ (z : Sealing). (head ++ f (sealedBytes suite key z)) ++ drop end out) same;
+      }
 
 -- the limits under a nonce of 12 bytes
 header-limit : {n : ℕ} → n ≡ 12 → headerLimit n ≡ 2 ^ 24
@@ -63,7 +70,8 @@ text-limit : {n : ℕ} → n ≡ 12 → textLimit n ≡ 2 ^ 24
 unfolding textLimit
 text-limit e = ap textLimit e
 
-module _ (suite : Suite) (key nonce header : List ℕ) (m : ℕ) (out : List ℕ) (s : Within suite nonce header m) (long : length key ≡ 16) (room : m + 16 ≤ length out) where
+module _ (suite : Suite) (key nonce header : List ℕ) (m : ℕ) (out : List ℕ)
+    (s : Within suite nonce header m) (long : length key ≡ 16) (room : m + 16 ≤ length out) where
   abbrev all : List ℕ
   all = sealed (suite .cipher) (suite .steps) key nonce header (take m out)
 

@@ -7,7 +7,7 @@ use lib.ListN.{length, take, drop}
 use Rattle.suites.specs.declared.suite.Suite.{Suite}
 use Rattle.suites.specs.Suite.{listed}
 use Rattle.fields.specs.Field.{field}
-use Rattle.format.specs.Sealings.{Sealing, sealingCalls}
+use Rattle.format.specs.Sealings.{Sealing, sealedBytes, sealingCalls}
 use Rattle.sealing.specs.declared.seal.SealAnswer.{SealAnswer}
 use Rattle.sealing.specs.declared.seal.SealAnswer.the-variants.{Sealed, Refused}
 
@@ -31,3 +31,11 @@ pub record Within (suite : Suite) (nonce header : List ℕ) (m : ℕ) : Type 0 w
 pub record Put (s : Sealing) (bytes : List ℕ) (n : ℕ) (out x : List ℕ) (r : ℕ) : Type 0 where
   pub calls : r ≡ length (sealingCalls s)
   pub is : x ≡ bytes ++ drop n out
+
+-- the same where f makes those bytes of the sealed ones
+abbrev pub PutSealed : Suite → List ℕ → Sealing → (List ℕ → List ℕ) → ℕ → List ℕ → List ℕ → ℕ → Type 0
+PutSealed suite key s f = Put s (f (sealedBytes suite key s))
+
+-- a text sealed under a nonce, with a header
+abbrev pub sealingOf : List ℕ → List ℕ → List ℕ → Sealing
+sealingOf nonce header text = record { nonce = nonce; header = header; text = text }

@@ -7,7 +7,6 @@ ghost use mathlib.Core.Path.{_≡_};
 ghost use mathlib.Core.List.{_++_};
 ghost use Prim.Native.Nat.{_+_, _≤_};
 ghost use lib.ListN.{length, take, drop};
-ghost use Rattle.calls.specs.Calls.{calls};
 ghost use Rattle.suites.specs.Suite.{listed};
 ghost use Rattle.fields.specs.Field.{field};
 ghost use Rattle.kinds.specs.Kind.{kindOf};
@@ -15,8 +14,7 @@ ghost use Rattle.kinds.specs.Lengths.{unitLength, closeLength};
 ghost use Rattle.format.specs.Layout.{sealedFields, unitBytes, closeBytes};
 ghost use Rattle.format.specs.Sealings.{unitSealing, closeSealing};
 ghost use Rattle.fields.specs.Unit.{unitOf, unitText, inRange};
-ghost use Rattle.sealing.specs.Seal.{sealed};
-ghost use Rattle.frames.specs.Parts.{callCount, Within, tagApart, Put};
+ghost use Rattle.frames.specs.Parts.{callCount, Within, tagApart, Put, PutSealed, sealingOf};
 
 // The number of cipher calls that a sealing has made.
 fn calls_of(answer: SealAnswer) -> u64
@@ -31,7 +29,8 @@ fn calls_of(answer: SealAnswer) -> u64
 // The text of a unit.
 fn put_text(source: &[u8], target: &[u8], out: &mut [u8])
     requires { ⌜ 2 + (length (now source) + length (now target)) ≤ length (now out) ⌝ }
-    ensures { λ r. ⌜ now (out .exit) ≡ unitText (now (source .entry)) (now (target .entry)) ++ drop (2 + (length (now (source .entry)) + length (now (target .entry)))) (now (out .entry)) ⌝ }
+    ensures { λ r. ⌜ now (out .exit) ≡ unitText (now (source .entry)) (now (target .entry))
+        ++ drop (2 + (length (now (source .entry)) + length (now (target .entry)))) (now (out .entry)) ⌝ }
 {
     let s = source.len();
     let n = 2 + s;
@@ -59,8 +58,13 @@ fn seal_here(
     m: usize,
     out: &mut [u8],
 ) -> u64
-    requires { ⌜ Within suite (now nonce) (now header) m × (m + 19 ≤ length (now out)) ⌝ }
-    ensures { λ r. ⌜ (r ≡ length (calls (now (nonce .entry)) (now (header .entry)) (take m (now (out .entry))))) × (now (out .exit) ≡ tagApart m (sealed (suite .cipher) (suite .steps) key (now (nonce .entry)) (now (header .entry)) (take m (now (out .entry)))) ++ drop (m + 19) (now (out .entry))) ⌝ }
+    requires { ⌜ Within suite (now nonce) (now header) m
+        × (m + 19 ≤ length (now out)) ⌝ }
+    ensures { λ r. ⌜ PutSealed suite key
+        (sealingOf (now (nonce .entry)) (now (header .entry)) (take m (now (out .entry))))
+        (tagApart m)
+        (m + 19)
+        (now (out .entry)) (now (out .exit)) r ⌝ }
 {
     let answer = sealing::seal::seal_in_place(suite, &key, nonce, header, m, out);
     put_tag(&mut out[m..]);
@@ -77,8 +81,13 @@ fn put_sealed(
     target: &[u8],
     out: &mut [u8],
 ) -> u64
-    requires { ⌜ Within suite (now nonce) (now header) (2 + (length (now source) + length (now target))) × (24 + (length (now source) + length (now target)) ≤ length (now out)) ⌝ }
-    ensures { λ r. ⌜ (r ≡ length (calls (now (nonce .entry)) (now (header .entry)) (unitText (now (source .entry)) (now (target .entry))))) × (now (out .exit) ≡ sealedFields (length (unitText (now (source .entry)) (now (target .entry)))) (sealed (suite .cipher) (suite .steps) key (now (nonce .entry)) (now (header .entry)) (unitText (now (source .entry)) (now (target .entry)))) ++ drop (24 + (length (now (source .entry)) + length (now (target .entry)))) (now (out .entry))) ⌝ }
+    requires { ⌜ Within suite (now nonce) (now header) (2 + (length (now source) + length (now target)))
+        × (24 + (length (now source) + length (now target)) ≤ length (now out)) ⌝ }
+    ensures { λ r. ⌜ PutSealed suite key
+        (sealingOf (now (nonce .entry)) (now (header .entry)) (unitText (now (source .entry)) (now (target .entry))))
+        (sealedFields (length (unitText (now (source .entry)) (now (target .entry)))))
+        (24 + (length (now (source .entry)) + length (now (target .entry))))
+        (now (out .entry)) (now (out .exit)) r ⌝ }
 {
     let m = 2 + (source.len() + target.len());
     put_text(source, target, &mut out[3..]);
@@ -135,7 +144,8 @@ pub fn put_close(
     n: u64,
     out: &mut [u8],
 ) -> u64
-    requires { ⌜ (listed (suite .cipher) (suite .steps) ≡ true) × (closeLength (kindOf kind) ≤ length (now out)) ⌝ }
+    requires { ⌜ (listed (suite .cipher) (suite .steps) ≡ true)
+        × (closeLength (kindOf kind) ≤ length (now out)) ⌝ }
     ensures { λ r. ⌜ Put
         (closeSealing (kindOf kind) suite number n)
         (closeBytes (kindOf kind) suite key number n)

@@ -2,7 +2,8 @@
 ghost use mathlib.Core.Path.{_≡_};
 ghost use Prim.Native.Nat.{_+_, _/_, _^_, _<_};
 ghost use Rattle.kinds.specs.Kind.{kindOf, newest, kindBy, bookKind};
-ghost use Rattle.kinds.specs.Lengths.{Small, headerBytes, headerLength, closeHeaderLength, codesAt, ciphertextAt, frameLength, unitLength, closeLength, unitCalls, closeCalls};
+ghost use Rattle.kinds.specs.Lengths.{Small, headerBytes, headerLength, closeHeaderLength, codesAt, ciphertextAt};
+ghost use Rattle.kinds.specs.Lengths.{frameLength, unitLength, closeLength, unitCalls, closeCalls};
 
 // A kind has the name of the tag of its unit headers.
 pub enum Kind {
@@ -93,14 +94,14 @@ impl Kind {
         3 + self.header_bytes()
     }
 
-    // How many bytes the first field of a close has.
+    // How many bytes the first field of a close has: tag, length and the count.
     pub fn close_header_len(self) -> usize
         ensures { λ r. ⌜ Small 7 (closeHeaderLength (kindOf self)) r ⌝ }
     {
         3 + self.number_bytes()
     }
 
-    // Where the language codes stand in a unit.
+    // Where the language codes stand in a unit: behind tag, length and number of its header.
     pub fn codes_at(self) -> usize
         ensures { λ r. ⌜ Small 7 (codesAt (kindOf self)) r ⌝ }
     {
@@ -114,7 +115,7 @@ impl Kind {
         self.header_len() + 3
     }
 
-    // How many bytes a unit has whose ciphertext has m.
+    // How many bytes a unit has whose ciphertext has m; for our own crates, whose lengths are below the limit.
     pub fn unit_len(self, m: usize) -> usize
         requires { ⌜ m < 2 ^ 32 ⌝ }
         ensures { λ r. ⌜ Small (41 + m) (frameLength (kindOf self) m) r ⌝ }
@@ -122,7 +123,7 @@ impl Kind {
         self.header_len() + (3 + m) + (3 + 16)
     }
 
-    // How many bytes a unit has with a source of s bytes and a target of t.
+    // How many bytes a unit has with a source of s bytes and a target of t; likewise.
     pub fn unit_room(self, s: usize, t: usize) -> usize
         requires { ⌜ s + t < 2 ^ 31 ⌝ }
         ensures { λ r. ⌜ Small (43 + (s + t)) (unitLength (kindOf self) s t) r ⌝ }
@@ -137,7 +138,7 @@ impl Kind {
         self.close_header_len() + (3 + 16)
     }
 
-    // How many cipher calls a unit takes whose ciphertext has m bytes.
+    // How many cipher calls a unit takes whose ciphertext has m bytes; for our own crates too.
     pub fn unit_calls(self, m: usize) -> u64
         requires { ⌜ m < 2 ^ 32 ⌝ }
         ensures { λ r. ⌜ Small (4 + (m + 15) / 16) (unitCalls (kindOf self) m) r ⌝ }

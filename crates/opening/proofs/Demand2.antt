@@ -20,7 +20,7 @@ use Rattle.suites.specs.declared.refusal.Answer.the-variants.{Done, Refused}
 use Rattle.suites.specs.declared.refusal.Answer.{Answer}
 use Rattle.suites.specs.declared.suite.Suite.{Suite}
 use Rattle.suites.specs.Told.{Told, gives, told}
-use Rattle.suites.proofs.Numbers.{number-some, told-done}
+use Rattle.suites.proofs.Numbers.{number-within, told-done}
 use Rattle.limits.specs.Tests.{openTests}
 use Rattle.limits.proofs.Passed.{Openable as Passing, seal-passed, open-passed, open-passes}
 use Rattle.bits.specs.Bytes.{sameBytes}
@@ -60,7 +60,7 @@ same-refl (suc n) x = λ i. same-refl n x i && eq-eqb (getD x n 0) (getD x n 0) 
 -- sealing that tells the number 0 was done
 seal-done : (a : Answer) (len count : ℕ) → sealTold (sealReport a len count) .number ≡ 0 → a ≡ Done
 seal-done Done len count e = refl
-seal-done (Refused why) len count e = absurd (omega (arith, number-some why))
+seal-done (Refused why) len count e = absurd (omega (arith, number-within why .0))
 
 module _ (u : Context) (key-bytes : Bytes (u .key)) (nonce-bytes : Bytes (u .nonce)) where
   S : Suite

@@ -2,37 +2,48 @@
 use mathlib.Core.Path.{_≡_, refl, sym, ap, fun-ext, _∙_}
 use mathlib.Core.List.{List}
 use mathlib.Core.Bool.{Bool, true, false, cond}
-use Prim.Native.Nat.{ℕ, zero, suc, _+_, _*_, _≤_, _<_}
+use Prim.Native.Nat.{ℕ, zero, suc, _+_, _*_}
 use native.Mathlib.Nat.{add-zero}
 use native.Mathlib.Omega.{arith}
 use lib.Dec.{leb, ltb}
-use lib.ListN.{length, getD}
-use Rattle.bits.specs.Table.{tab}
-use Rattle.bits.proofs.Lists.{length-tab}
+use lib.ListN.{length}
 use Rattle.sbox.specs.Sbox
 use Rattle.rounds.specs.declared.Cipher.{Cipher}
+use Rattle.tweakey.specs.declared.Schedule.{Schedule}
+use Rattle.tweakey.specs.Schedule.{stateAt, tweakeysIn}
+use Rattle.tweakey.proofs.Tweakeys.{tweakeys-in}
+use Rattle.state.specs.declared.State.{State}
+use Rattle.state.specs.State.{rowsOf}
 use Rattle.state.specs.Block.{rows, bytes}
 use Rattle.state.specs.Rows.{addRows}
 use Rattle.rounds.specs.Cipher.{Parts, parts, unround, step, unstep, steps, unsteps, tweakeys, encipher, decipher, stepped, unstepped}
-use Rattle.runs.specs.Run.{aheadBlock, backBlock}
-use Rattle.blockwise.specs.Blocks.{eachBlock}
+use Rattle.runs.specs.Run.{aheadBlock, backBlock, eachUpTo14}
 use Rattle.blockwise.proofs.Each.{Blockwise, each-one}
 use Rattle.state.proofs.Trips.{rows-long, bytes-long}
 
--- a run of a block, from rows that the code has
-pub ahead-is : (c : Cipher) (s n : ℕ) (first : Bool) (key tweak b : List ℕ) (tk : ℕ → List ℕ) → ((σ : ℕ) → tk σ ≡ tweakeys c key tweak σ)
-    → (x : List ℕ) → x ≡ cond first (addRows (rows b) (tk 0)) (rows b) → bytes (steps (parts c) tk s n x) ≡ aheadBlock c s n first key tweak b
-unfolding aheadBlock
-ahead-is c s n first key tweak b tk e x d =
-    ap (λ (x : List ℕ). bytes (steps (parts c) tk s n x)) d
-    ∙ ap (λ (tk : ℕ → List ℕ). bytes (steps (parts c) tk s n (cond first (addRows (rows b) (tk 0)) (rows b)))) (fun-ext e)
+-- a run of a block, from what the code has: the rows of key, tweak and block, a schedule, and its first tweakey
+module _ (c : Cipher) (s n : ℕ) (wanted : Bool) (key tweak b : List ℕ) (h : Schedule) {k t x : List ℕ} {first : State}
+    (made : (σ : ℕ) → tweakeysIn c h σ ≡ parts c .tweakey k t σ) (ek : k ≡ rows key) (et : t ≡ rows tweak)
+    (ef : first ≡ stateAt c h 0) (ex : x ≡ rows b) where
+  tk : tweakeysIn c h ≡ tweakeys c key tweak
+  tk = fun-ext (λ σ. made σ ∙ (λ i. parts c .tweakey (ek i) (et i) σ))
 
-pub back-is : (c : Cipher) (s n : ℕ) (last : Bool) (key tweak b : List ℕ) (tk : ℕ → List ℕ) → ((σ : ℕ) → tk σ ≡ tweakeys c key tweak σ)
-    → (x : List ℕ) → x ≡ unsteps (parts c) tk s n (rows b) → bytes (cond last (addRows x (tk 0)) x) ≡ backBlock c s n last key tweak b
-unfolding backBlock
-back-is c s n last key tweak b tk e x d =
-    ap (λ (x : List ℕ). bytes (cond last (addRows x (tk 0)) x)) d
-    ∙ ap (λ (tk : ℕ → List ℕ). let y : List ℕ = unsteps (parts c) tk s n (rows b) in bytes (cond last (addRows y (tk 0)) y)) (fun-ext e)
+  tk-first : rowsOf first ≡ tweakeys c key tweak 0
+  tk-first = ap rowsOf ef ∙ sym (tweakeys-in c h 0) ∙ (λ i. tk i 0)
+
+  pub ahead-is : {y z : List ℕ} → y ≡ cond wanted (addRows x (rowsOf first)) x → z ≡ steps (parts c) (tweakeysIn c h) s n y
+      → bytes z ≡ aheadBlock c s n wanted key tweak b
+  unfolding aheadBlock
+  ahead-is ey ez =
+      let e = ey ∙ (λ i. cond wanted (addRows (ex i) (tk-first i)) (ex i)) in
+      ap bytes ez ∙ (λ i. bytes (steps (parts c) (tk i) s n (e i)))
+
+  pub back-is : {y z : List ℕ} → y ≡ unsteps (parts c) (tweakeysIn c h) s n x → z ≡ cond wanted (addRows y (rowsOf first)) y
+      → bytes z ≡ backBlock c s n wanted key tweak b
+  unfolding backBlock
+  back-is ey ez =
+      let e = ey ∙ (λ i. unsteps (parts c) (tk i) s n (ex i)) in
+      ap bytes ez ∙ (λ i. bytes (cond wanted (addRows (e i) (tk-first i)) (e i)))
 
 -- from the start
 pub encipher-run : (c : Cipher) (n : ℕ) (key tweak b : List ℕ) → aheadBlock c 0 n true key tweak b ≡ encipher c n key tweak b
@@ -44,11 +55,11 @@ unfolding backBlock decipher
 decipher-run c n key tweak b = refl
 
 -- one step
-pub step-run : (c : Cipher) (s : ℕ) (key tweak b : List ℕ) → aheadBlock c s 1 false key tweak b ≡ bytes (step (parts c) (tweakeys c key tweak) s (rows b))
+step-run : (c : Cipher) (s : ℕ) (key tweak b : List ℕ) → aheadBlock c s 1 false key tweak b ≡ bytes (step (parts c) (tweakeys c key tweak) s (rows b))
 unfolding aheadBlock steps
 step-run c s key tweak b = ap (λ (k : ℕ). bytes (step (parts c) (tweakeys c key tweak) k (rows b))) (add-zero s)
 
-pub unstep-run : (c : Cipher) (s : ℕ) (key tweak b : List ℕ) → backBlock c s 1 false key tweak b ≡ bytes (unstep (parts c) (tweakeys c key tweak) s (rows b))
+unstep-run : (c : Cipher) (s : ℕ) (key tweak b : List ℕ) → backBlock c s 1 false key tweak b ≡ bytes (unstep (parts c) (tweakeys c key tweak) s (rows b))
 unfolding backBlock unsteps
 unstep-run c s key tweak b = ap (λ (k : ℕ). bytes (unstep (parts c) (tweakeys c key tweak) k (rows b))) (add-zero s)
 
@@ -102,15 +113,14 @@ limit-of-one s =
     let e : s + 1 ≡ suc s = omega arith in
     ap (λ (k : ℕ). leb k 14) e
 
-module _ (c : Cipher) (s : ℕ) (key t b : List ℕ) (ht : length t ≡ 16) (hb : length b ≡ 16) where
-  pub stepped-run : cond (leb (s + 1) 14) (eachBlock (aheadBlock c s 1 false key) t b) b ≡ stepped c s key t b
-  unfolding stepped
-  stepped-run =
-      ap (λ (l : Bool). cond l (eachBlock (aheadBlock c s 1 false key) t b) b) (limit-of-one s)
-      ∙ ap (λ (x : List ℕ). cond (ltb s 14) x b) (each-one (aheadBlock c s 1 false key) t b ht hb ∙ step-run c s key t b)
+module _ (s : ℕ) (t b : List ℕ) (ht : length t ≡ 16) (hb : length b ≡ 16) where
+  run-of-one : (f : List ℕ → List ℕ → List ℕ) {x : List ℕ} → f t b ≡ x → eachUpTo14 (s + 1) f t b ≡ cond (ltb s 14) x b
+  run-of-one f e = λ i. cond (limit-of-one s i) ((each-one f t b ht hb ∙ e) i) b
 
-  pub unstepped-run : cond (leb (s + 1) 14) (eachBlock (backBlock c s 1 false key) t b) b ≡ unstepped c s key t b
+  pub stepped-run : (c : Cipher) (key : List ℕ) → eachUpTo14 (s + 1) (aheadBlock c s 1 false key) t b ≡ stepped c s key t b
+  unfolding stepped
+  stepped-run c key = run-of-one (aheadBlock c s 1 false key) (step-run c s key t b)
+
+  pub unstepped-run : (c : Cipher) (key : List ℕ) → eachUpTo14 (s + 1) (backBlock c s 1 false key) t b ≡ unstepped c s key t b
   unfolding unstepped
-  unstepped-run =
-      ap (λ (l : Bool). cond l (eachBlock (backBlock c s 1 false key) t b) b) (limit-of-one s)
-      ∙ ap (λ (x : List ℕ). cond (ltb s 14) x b) (each-one (backBlock c s 1 false key) t b ht hb ∙ unstep-run c s key t b)
+  unstepped-run c key = run-of-one (backBlock c s 1 false key) (unstep-run c s key t b)

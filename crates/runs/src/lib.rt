@@ -5,12 +5,11 @@ ghost use mathlib.Core.Bool.{cond};
 ghost use mathlib.Core.Path.{_≡_};
 ghost use Prim.Native.Nat.{_+_, _≤_};
 ghost use lib.Dec.{leb};
-ghost use lib.ListN.{length, take, drop};
-ghost use lib.Seq.{paste};
+ghost use lib.ListN.{length};
 ghost use Rattle.blockwise.specs.Blocks.{eachBlock};
 ghost use Rattle.rounds.specs.Cipher.{parts};
-ghost use Rattle.steps.specs.Lent.{LentTables};
-ghost use Rattle.runs.specs.Run.{aheadBlock, backBlock};
+ghost use Rattle.steps.specs.Lent.{LentSteps};
+ghost use Rattle.runs.specs.Run.{aheadBlock, backBlock, oneAt, eachUpTo14};
 ghost use Rattle.state.specs.Rows.{addRows};
 ghost use Rattle.state.specs.State.{rowsOf};
 
@@ -50,7 +49,7 @@ fn block_ahead<'a>(
     high: &'a [u16; 256],
     c: &'a [u8; 29],
 ) -> [u8; 16]
-    requires { ⌜ (s + n ≤ 14) × LentTables (parts k .lbox) (now low) (now high) (now c) ⌝ }
+    requires { ⌜ LentSteps (parts k .lbox) s n (now low) (now high) (now c) ⌝ }
     ensures { λ r. ⌜ r ≡ aheadBlock k s n first key tweak block ⌝ }
 {
     let h = tweakey::schedule_of(k, state::load(key), state::load(tweak));
@@ -73,8 +72,10 @@ fn one_ahead<'a>(
     high: &'a [u16; 256],
     c: &'a [u8; 29],
 )
-    requires { ⌜ (s + n ≤ 14) × LentTables (parts k .lbox) (now low) (now high) (now c) × (at + 16 ≤ length (now tweaks)) × (at + 16 ≤ length (now blocks)) ⌝ }
-    ensures { λ r. ⌜ now (blocks .exit) ≡ paste (now (blocks .entry)) at (aheadBlock k s n first key (take 16 (drop at (now (tweaks .entry)))) (take 16 (drop at (now (blocks .entry))))) 16 ⌝ }
+    requires { ⌜ LentSteps (parts k .lbox) s n (now low) (now high) (now c)
+        × (at + 16 ≤ length (now tweaks))
+        × (at + 16 ≤ length (now blocks)) ⌝ }
+    ensures { λ r. ⌜ now (blocks .exit) ≡ oneAt (aheadBlock k s n first key) at (now (tweaks .entry)) (now (blocks .entry)) ⌝ }
 {
     let tweak = blockwise::block_at(tweaks, at);
     let block = blockwise::block_at(blocks, at);
@@ -95,7 +96,7 @@ fn all_ahead<'a>(
     high: &'a [u16; 256],
     c: &'a [u8; 29],
 )
-    requires { ⌜ (s + n ≤ 14) × LentTables (parts k .lbox) (now low) (now high) (now c) ⌝ }
+    requires { ⌜ LentSteps (parts k .lbox) s n (now low) (now high) (now c) ⌝ }
     ensures { λ r. ⌜ now (blocks .exit) ≡ eachBlock (aheadBlock k s n first key) (now (tweaks .entry)) (now (blocks .entry)) ⌝ }
 {
     let m = blockwise::whole(tweaks.len(), blocks.len());
@@ -158,7 +159,7 @@ pub fn run_ahead(
     tweaks: &[u8],
     blocks: &mut [u8],
 )
-    ensures { λ r. ⌜ now (blocks .exit) ≡ cond (leb (s + n) 14) (eachBlock (aheadBlock k s n first key) (now (tweaks .entry)) (now (blocks .entry))) (now (blocks .entry)) ⌝ }
+    ensures { λ r. ⌜ now (blocks .exit) ≡ eachUpTo14 (s + n) (aheadBlock k s n first key) (now (tweaks .entry)) (now (blocks .entry)) ⌝ }
 {
     if fits_table(s, n) {
         looked_up_ahead(k, s, n, first, key, tweaks, blocks);
@@ -178,7 +179,7 @@ fn block_back<'a>(
     high: &'a [u16; 256],
     c: &'a [u8; 29],
 ) -> [u8; 16]
-    requires { ⌜ (s + n ≤ 14) × LentTables (parts k .lboxInverse) (now low) (now high) (now c) ⌝ }
+    requires { ⌜ LentSteps (parts k .lboxInverse) s n (now low) (now high) (now c) ⌝ }
     ensures { λ r. ⌜ r ≡ backBlock k s n last key tweak block ⌝ }
 {
     let h = tweakey::schedule_of(k, state::load(key), state::load(tweak));
@@ -201,8 +202,10 @@ fn one_back<'a>(
     high: &'a [u16; 256],
     c: &'a [u8; 29],
 )
-    requires { ⌜ (s + n ≤ 14) × LentTables (parts k .lboxInverse) (now low) (now high) (now c) × (at + 16 ≤ length (now tweaks)) × (at + 16 ≤ length (now blocks)) ⌝ }
-    ensures { λ r. ⌜ now (blocks .exit) ≡ paste (now (blocks .entry)) at (backBlock k s n last key (take 16 (drop at (now (tweaks .entry)))) (take 16 (drop at (now (blocks .entry))))) 16 ⌝ }
+    requires { ⌜ LentSteps (parts k .lboxInverse) s n (now low) (now high) (now c)
+        × (at + 16 ≤ length (now tweaks))
+        × (at + 16 ≤ length (now blocks)) ⌝ }
+    ensures { λ r. ⌜ now (blocks .exit) ≡ oneAt (backBlock k s n last key) at (now (tweaks .entry)) (now (blocks .entry)) ⌝ }
 {
     let tweak = blockwise::block_at(tweaks, at);
     let block = blockwise::block_at(blocks, at);
@@ -223,7 +226,7 @@ fn all_back<'a>(
     high: &'a [u16; 256],
     c: &'a [u8; 29],
 )
-    requires { ⌜ (s + n ≤ 14) × LentTables (parts k .lboxInverse) (now low) (now high) (now c) ⌝ }
+    requires { ⌜ LentSteps (parts k .lboxInverse) s n (now low) (now high) (now c) ⌝ }
     ensures { λ r. ⌜ now (blocks .exit) ≡ eachBlock (backBlock k s n last key) (now (tweaks .entry)) (now (blocks .entry)) ⌝ }
 {
     let m = blockwise::whole(tweaks.len(), blocks.len());
@@ -286,7 +289,7 @@ pub fn run_back(
     tweaks: &[u8],
     blocks: &mut [u8],
 )
-    ensures { λ r. ⌜ now (blocks .exit) ≡ cond (leb (s + n) 14) (eachBlock (backBlock k s n last key) (now (tweaks .entry)) (now (blocks .entry))) (now (blocks .entry)) ⌝ }
+    ensures { λ r. ⌜ now (blocks .exit) ≡ eachUpTo14 (s + n) (backBlock k s n last key) (now (tweaks .entry)) (now (blocks .entry)) ⌝ }
 {
     if fits_table(s, n) {
         looked_up_back(k, s, n, last, key, tweaks, blocks);

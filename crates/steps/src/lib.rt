@@ -4,14 +4,14 @@ use rounds::Cipher;
 use state::State;
 use tweakey::Schedule;
 ghost use mathlib.Core.Path.{_≡_};
-ghost use Prim.Native.Nat.{_+_, _*_, _<_, _≤_};
+ghost use Prim.Native.Nat.{_+_, _*_};
 ghost use lib.ListN.{getD};
 ghost use Rattle.bits.specs.Table.{tab};
 ghost use Rattle.lbox.specs.Lbox;
 ghost use Rattle.sbox.specs.Sbox;
 ghost use Rattle.lbox.specs.Tables.{lookedUp, lows, highs};
 ghost use Rattle.rounds.specs.Cipher.{parts, constant, addConstant, round, unround, steps, unsteps};
-ghost use Rattle.steps.specs.Lent.{LentTables};
+ghost use Rattle.steps.specs.Lent.{LentSteps};
 ghost use Rattle.tweakey.specs.Schedule.{tweakeysIn};
 ghost use Rattle.state.specs.State.{rowsOf};
 
@@ -91,7 +91,8 @@ fn lbox_layer_back<'a>(w: [u16; 8], low: &'a [u16; 256], high: &'a [u16; 256]) -
 
 // One round.
 fn round<'a>(k: Cipher, w: [u16; 8], c: u16, low: &'a [u16; 256], high: &'a [u16; 256]) -> [u16; 8]
-    requires { ⌜ (now low ≡ lows (parts k .lbox)) × (now high ≡ highs (parts k .lbox)) ⌝ }
+    requires { ⌜ (now low ≡ lows (parts k .lbox))
+        × (now high ≡ highs (parts k .lbox)) ⌝ }
     ensures { λ r. ⌜ r ≡ Lbox.layer (parts k .lbox) (addConstant c (Sbox.layer (parts k .sbox) w)) ⌝ }
 {
     let y = sbox_layer(k, w);
@@ -107,7 +108,8 @@ fn round_back<'a>(
     low: &'a [u16; 256],
     high: &'a [u16; 256],
 ) -> [u16; 8]
-    requires { ⌜ (now low ≡ lows (parts k .lboxInverse)) × (now high ≡ highs (parts k .lboxInverse)) ⌝ }
+    requires { ⌜ (now low ≡ lows (parts k .lboxInverse))
+        × (now high ≡ highs (parts k .lboxInverse)) ⌝ }
     ensures { λ r. ⌜ r ≡ Sbox.layer (parts k .sboxInverse) (addConstant c (Lbox.layer (parts k .lboxInverse) w)) ⌝ }
 {
     let y = lbox_layer_back(w, low, high);
@@ -124,7 +126,7 @@ fn two_rounds<'a>(
     high: &'a [u16; 256],
     c: &'a [u8; 29],
 ) -> [u16; 8]
-    requires { ⌜ (s < 14) × LentTables (parts k .lbox) (now low) (now high) (now c) ⌝ }
+    requires { ⌜ LentSteps (parts k .lbox) s 1 (now low) (now high) (now c) ⌝ }
     ensures { λ r. ⌜ r ≡ round (parts k) (2 * s + 2) (round (parts k) (2 * s + 1) w) ⌝ }
 {
     let mut x = w;
@@ -146,7 +148,7 @@ fn two_rounds_back<'a>(
     high: &'a [u16; 256],
     c: &'a [u8; 29],
 ) -> [u16; 8]
-    requires { ⌜ (s < 14) × LentTables (parts k .lboxInverse) (now low) (now high) (now c) ⌝ }
+    requires { ⌜ LentSteps (parts k .lboxInverse) s 1 (now low) (now high) (now c) ⌝ }
     ensures { λ r. ⌜ r ≡ unround (parts k) (2 * s + 1) (unround (parts k) (2 * s + 2) w) ⌝ }
 {
     let mut x = w;
@@ -170,7 +172,7 @@ pub fn steps<'a>(
     high: &'a [u16; 256],
     c: &'a [u8; 29],
 ) -> State
-    requires { ⌜ (s + n ≤ 14) × LentTables (parts k .lbox) (now low) (now high) (now c) ⌝ }
+    requires { ⌜ LentSteps (parts k .lbox) s n (now low) (now high) (now c) ⌝ }
     ensures { λ r. ⌜ rowsOf r ≡ steps (parts k) (tweakeysIn k h) s n (rowsOf x) ⌝ }
 {
     let mut y = x;
@@ -195,7 +197,7 @@ pub fn steps_back<'a>(
     high: &'a [u16; 256],
     c: &'a [u8; 29],
 ) -> State
-    requires { ⌜ (s + n ≤ 14) × LentTables (parts k .lboxInverse) (now low) (now high) (now c) ⌝ }
+    requires { ⌜ LentSteps (parts k .lboxInverse) s n (now low) (now high) (now c) ⌝ }
     ensures { λ r. ⌜ rowsOf r ≡ unsteps (parts k) (tweakeysIn k h) s n (rowsOf x) ⌝ }
 {
     let mut y = x;

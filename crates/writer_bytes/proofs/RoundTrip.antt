@@ -3,9 +3,8 @@ use mathlib.Core.Path.{_≡_, refl, sym, ap, _∙_}
 use mathlib.Core.Bool.{Bool, true, false, cond, not}
 use mathlib.Core.List.{List, _++_}
 use Prim.Native.Nat.{ℕ, _+_, _^_, _<_}
-use native.Mathlib.Omega.{arith}
 use lib.Dec.{eqb}
-use lib.ListN.{length, take, drop, replicate, length-append}
+use lib.ListN.{length, take, drop, replicate}
 use lib.Seq.{take-at, drop-at, drop-drop}
 use Rattle.bits.specs.Bytes.{bigEndian, numberOf}
 use Rattle.bits.proofs.BigEndian.{length-bigEndian, numberOf-bigEndian}
@@ -32,7 +31,9 @@ flag-of : (closed : Bool) → not (eqb (cond closed 0 1) 1) ≡ closed
 flag-of true = refl
 flag-of false = refl
 
-pub writerOf-writerBytes : (w : Writer) → length (w .key) ≡ 16 → w .number < 2 ^ 64 → w .place < 2 ^ 64 → w .count < 2 ^ 64 → w .total < 2 ^ 64 → writerOf (writerBytes w) ≡ w
+pub writerOf-writerBytes : (w : Writer) → length (w .key) ≡ 16
+    → w .number < 2 ^ 64 → w .place < 2 ^ 64 → w .count < 2 ^ 64 → w .total < 2 ^ 64
+    → writerOf (writerBytes w) ≡ w
 unfolding writerOf writerBytes
 writerOf-writerBytes w long hn hp hc ht =
     let b = writerBytes w in
@@ -54,10 +55,6 @@ writerOf-writerBytes w long hn hp hc ht =
       total = number-there b 48 (w .total) after-total total-at ht i;
       closed = flag-of (w .closed) i;
     }
-
-pub length-writerBytes : (w : Writer) → length (w .key) ≡ 16 → length (writerBytes w) ≡ 64
-unfolding writerBytes
-length-writerBytes w long = simp (length-append, length-bigEndian) (omega arith)
 
 -- the closed writer of zeros
 pub writerBytes-none : writerBytes noWriter ≡ replicate 64 0

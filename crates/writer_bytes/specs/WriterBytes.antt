@@ -1,6 +1,6 @@
 -- The writer as the 64 bytes that C keeps, as include/sealed_book.h has them. Numbers are big-endian.
 use mathlib.Core.Bool.{cond, not}
-use mathlib.Core.List.{List, [], _∷_, _++_}
+use mathlib.Core.List.{List, _∷_, _++_}
 use Prim.Native.Nat.{ℕ}
 use lib.Dec.{eqb}
 use lib.ListN.{getD, take, drop, replicate}

@@ -1,20 +1,16 @@
 -- The header, and the tag of an empty text behind it.
-use mathlib.Core.Path.{_≡_, sym, ap, _∙_}
-use mathlib.Core.List.{List, _++_}
-use Prim.Native.Nat.{ℕ, _+_}
+use mathlib.Core.Path.{_≡_, refl, sym}
+use Prim.Native.Nat.{_+_}
 use native.Mathlib.Omega.{arith}
 use borrow.Author.Needs.{needs}
-use lib.ListN.{take, drop}
 use lib.Seq.{length-take-le}
-use Rattle.sealing.specs.Seal.{sealed}
 use Rattle.fields.specs.Kind.{Kind}
 use Rattle.kinds.specs.Kind.{kindOf}
 use Rattle.kinds.specs.Lengths.{closeLength}
 use Rattle.format.specs.Layout.{closeBytes}
-use Rattle.format.specs.Sealings.{Sealing, closeHeader, closeSealing}
-use Rattle.format.proofs.Behind.{behind}
+use Rattle.format.specs.Sealings.{closeHeader, closeSealing}
 use Rattle.frames.specs.Parts.{tagApart}
-use Rattle.frames.proofs.Sealed.{length-head, head-put, calls-are, sealed-are}
+use Rattle.frames.proofs.Sealed.{framed}
 use Rattle.frames.proofs.put_close.Statement.{statement}
 use Rattle.frames.proofs.put_close.Tie as tie
 
@@ -43,24 +39,14 @@ returns c =
     let o = g .before in
     let a = o .before .before .args in
     let out = a .out .now in
-    let nonce = o .nonce .result in
     let r = g .close-along .result in
     let is = g .close-along .ensures in
-    let header : List ℕ = take (r .len) (r .bytes) in
-    let n = h .close-header-len .result in
     let kind : Kind = kindOf (a .kind) in
-    let s : Sealing = closeSealing kind (a .suite) (a .number) (a .n) in
-    let head : List ℕ = closeHeader kind (a .n) in
+    let n = h .close-header-len .result in
     let long : r .len ≡ 16 + n = omega (arith, is .long, h .close-header-len .ensures .is) in
-    let x = k .copy .last .1 .0 in
-    record {
-      calls = calls-are s nonce header (o .nonce .ensures) (is .is) (l .seal-here .result) (l .seal-here .ensures .0);
-      is =
-          behind n head out x (length-head (a .suite) (a .number) n head r is long) (head-put (a .suite) (a .number) n head r is long out x (k .copy .ensures))
-          19 (closeLength kind) (omega (arith, h .close-header-len .ensures .is)) (λ q. tagApart 0 (sealed (a .suite .cipher) (a .suite .steps) (a .key) nonce header (take 0 q)))
-          (l .seal-here .last .1 .1 .1 .1 .1 .0) (l .seal-here .ensures .1)
-          ∙ ap (λ (z : List ℕ). (head ++ tagApart 0 z) ++ drop (closeLength kind) out) (sealed-are s nonce header (o .nonce .ensures) (is .is) (a .suite) (a .key));
-    }
+    framed (a .suite) (a .number) n (closeHeader kind (a .n)) r is long (a .key) (closeSealing kind (a .suite) (a .number) (a .n)) refl (o .nonce .ensures)
+    out (k .copy .last .1 .0) (k .copy .ensures) (tagApart 0) 19 (closeLength kind) (omega (arith, h .close-header-len .ensures .is))
+    (l .seal-here .ensures)
 
 pub put-close-spec : {M : Type 1} → statement M
 put-close-spec =

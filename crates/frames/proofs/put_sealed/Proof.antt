@@ -10,6 +10,7 @@ use Rattle.calls.specs.Calls.{calls}
 use Rattle.sealing.specs.Seal.{sealed}
 use Rattle.fields.specs.Field.{fieldHead}
 use Rattle.format.specs.Layout.{sealedFields}
+use Rattle.format.specs.Sealings.{sealedBytes, sealingCalls}
 use Rattle.fields.specs.Unit.{unitText}
 use Rattle.fields.proofs.Fields.{length-fieldHead}
 use Rattle.fields.proofs.Texts.{length-unitText}
@@ -21,6 +22,7 @@ use Rattle.frames.proofs.put_sealed.Statement.{statement}
 use Rattle.frames.proofs.put_sealed.Tie as tie
 
 returns : tie.Need-returns
+unfolding sealedBytes sealingCalls
 returns c =
     let l = c .before .before in
     let k = l .before .before .before .before in
@@ -46,15 +48,19 @@ returns c =
     let y = k .copy .last .1 .0 in
     let head : List ℕ = fieldHead 0x11 m in
     let three : length head ≡ 3 = length-fieldHead 0x11 m in
-    let is : y ≡ head ++ drop 3 x = copied 3 head (h .head .result) x y three (h .head .ensures) (k .copy .ensures) in (
-      of-part 3 head x y three is (λ q. length (calls (a .nonce .now) (a .header .now) (take m q))) (l .seal-here .result) (l .seal-here .ensures .0)
-          ∙ ap (λ (t : List ℕ). length (calls (a .nonce .now) (a .header .now) t)) there,
-      behind 3 head x y three is (m + 19) (24 + n) (omega arith) (λ q. tagApart m (all (take m q))) (l .seal-here .last .1 .1 .1 .1 .1 .0) (l .seal-here .ensures .1)
+    let is : y ≡ head ++ drop 3 x = copied 3 head (h .head .result) x y three (h .head .ensures) (k .copy .ensures) in
+    let sealed-long = length-sealed (a .suite) (a .key) (a .nonce .now) (a .header .now) text (omega (arith, p .pre .0 .nonceLong)) (length text) refl in
+    record {
+      calls =
+          of-part 3 head x y three is (λ q. length (calls (a .nonce .now) (a .header .now) (take m q))) (l .seal-here .result) (l .seal-here .ensures .calls)
+          ∙ ap (λ (t : List ℕ). length (calls (a .nonce .now) (a .header .now) t)) there;
+      is =
+          behind 3 head x y three is (m + 19) (24 + n) (omega arith) (λ q. tagApart m (all (take m q)))
+          (l .seal-here .last .1 .1 .1 .1 .1 .0) (l .seal-here .ensures .is)
           ∙ (λ j. (head ++ tagApart m (all (there j))) ++ later (3 + m) (take 3 out ++ text) out x front put (24 + n) (omega arith) j)
-          ∙ ap (λ (z : List ℕ). z ++ drop (24 + n) out)
-          (fields-joined m (all text) (omega (arith, length-sealed (a .suite) (a .key) (a .nonce .now) (a .header .now) text (omega (arith, p .pre .0 .nonceLong)) (length text) refl)))
-          ∙ ap (λ (i : ℕ). sealedFields i (all text) ++ drop (24 + n) out) (sym long),
-    )
+          ∙ ap (λ (z : List ℕ). z ++ drop (24 + n) out) (fields-joined m (all text) (omega (arith, sealed-long)))
+          ∙ ap (λ (i : ℕ). sealedFields i (all text) ++ drop (24 + n) out) (sym long);
+    }
 
 pub put-sealed-spec : {M : Type 1} → statement M
 put-sealed-spec =

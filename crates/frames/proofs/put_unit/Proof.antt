@@ -1,21 +1,19 @@
 -- The header, and the text behind it, sealed.
-use mathlib.Core.Path.{_≡_, sym, ap, _∙_}
-use mathlib.Core.List.{List, _++_}
+use mathlib.Core.Path.{_≡_, refl, sym}
+use mathlib.Core.List.{_++_}
 use Prim.Native.Nat.{ℕ, _+_}
 use native.Mathlib.Omega.{arith}
 use borrow.Author.Needs.{needs}
-use lib.ListN.{length, take, drop}
+use lib.ListN.{length}
 use lib.Seq.{length-take-le}
-use Rattle.sealing.specs.Seal.{sealed}
 use Rattle.fields.specs.Kind.{Kind}
 use Rattle.fields.specs.Unit.{BookUnit, unitOf, unitText, detailsOf}
 use Rattle.kinds.specs.Kind.{kindOf}
 use Rattle.kinds.specs.Lengths.{unitLength}
 use Rattle.format.specs.Layout.{sealedFields, unitBytes}
-use Rattle.format.specs.Sealings.{Sealing, unitHeader, unitSealing}
-use Rattle.format.proofs.Behind.{behind}
+use Rattle.format.specs.Sealings.{unitHeader, unitSealing}
 use Rattle.format.proofs.Lengths.{range-told}
-use Rattle.frames.proofs.Sealed.{length-head, head-put, calls-are, sealed-are}
+use Rattle.frames.proofs.Sealed.{framed}
 use Rattle.frames.proofs.put_unit.Statement.{statement}
 use Rattle.frames.proofs.put_unit.Tie as tie
 
@@ -45,28 +43,18 @@ returns c =
     let o = g .before in
     let a = o .before .before .before .before .args in
     let out = a .out .now in
-    let nonce = o .nonce .result in
     let r = g .unit-along .result in
     let is = g .unit-along .ensures in
-    let header : List ℕ = take (r .len) (r .bytes) in
-    let n = h .header-len .result in
     let kind : Kind = kindOf (a .kind) in
+    let n = h .header-len .result in
     let u : BookUnit = unitOf (a .from) (a .to) (a .source .now) (a .target .now) in
-    let s : Sealing = unitSealing kind (a .suite) (a .number) (a .n) u in
-    let text : List ℕ = unitText (a .source .now) (a .target .now) in
     let m : ℕ = length (a .source .now) + length (a .target .now) in
-    let end : ℕ = unitLength kind (length (a .source .now)) (length (a .target .now)) in
-    let head : List ℕ = unitHeader kind (a .n) (a .from ++ a .to) in
     let long : r .len ≡ 16 + n = omega (arith, is .long, h .header-len .ensures .is) in
-    let x = k .copy .last .1 .0 in
-    record {
-      calls = calls-are s nonce header (o .nonce .ensures) (is .is) (l .put-sealed .result) (l .put-sealed .ensures .0);
-      is =
-          behind n head out x (length-head (a .suite) (a .number) n head r is long) (head-put (a .suite) (a .number) n head r is long out x (k .copy .ensures))
-          (24 + m) end (omega (arith, h .header-len .ensures .is)) (λ q. sealedFields (length text) (sealed (a .suite .cipher) (a .suite .steps) (a .key) nonce header text))
-          (l .put-sealed .last .1 .1 .1 .1 .1 .1 .0) (l .put-sealed .ensures .1)
-          ∙ ap (λ (z : List ℕ). (head ++ sealedFields (length text) z) ++ drop end out) (sealed-are s nonce header (o .nonce .ensures) (is .is) (a .suite) (a .key));
-    }
+    framed (a .suite) (a .number) n (unitHeader kind (a .n) (a .from ++ a .to)) r is long (a .key)
+    (unitSealing kind (a .suite) (a .number) (a .n) u) refl (o .nonce .ensures)
+    out (k .copy .last .1 .0) (k .copy .ensures) (sealedFields (length (unitText (a .source .now) (a .target .now)))) (24 + m)
+    (unitLength kind (length (a .source .now)) (length (a .target .now))) (omega (arith, h .header-len .ensures .is))
+    (l .put-sealed .ensures)
 
 pub put-unit-spec : {M : Type 1} → statement M
 put-unit-spec =

@@ -4,14 +4,10 @@ use Rattle.runs.proofs.looked_up_ahead.Statement.{statement}
 use Rattle.runs.proofs.looked_up_ahead.Tie as tie
 
 all-ahead-requires : tie.Need-all-ahead-requires
-all-ahead-requires c κs =
-    rw (c .before .before .before .before .before .before .before .enum-told .given .1)
-    (c .before .before .before .before .before .before .before .before .before .before .before .pre, record { low-are = c .before .before .before .before .before .low .ensures; high-are = c .before .before .before .high .ensures; constants-are = c .before .constants .ensures })
+all-ahead-requires c κs = rw (c .before .before .before .before .before .before .before .enum-told .given .1) (search needs)
 
 all-ahead-requires-2 : tie.Need-all-ahead-requires-2
-all-ahead-requires-2 c κs =
-    rw (c .before .before .before .before .before .before .before .enum-told2 .given .1)
-    (c .before .before .before .before .before .before .before .before .before .before .before .pre, record { low-are = c .before .before .before .before .before .low2 .ensures; high-are = c .before .before .before .high2 .ensures; constants-are = c .before .constants2 .ensures })
+all-ahead-requires-2 c κs = rw (c .before .before .before .before .before .before .before .enum-told2 .given .1) (search needs)
 
 pub looked-up-ahead-spec : {M : Type 1} → statement M
 looked-up-ahead-spec =

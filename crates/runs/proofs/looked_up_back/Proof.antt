@@ -4,14 +4,10 @@ use Rattle.runs.proofs.looked_up_back.Statement.{statement}
 use Rattle.runs.proofs.looked_up_back.Tie as tie
 
 all-back-requires : tie.Need-all-back-requires
-all-back-requires c κs =
-    rw (c .before .before .before .before .before .before .before .enum-told .given .1)
-    (c .before .before .before .before .before .before .before .before .before .before .before .pre, record { low-are = c .before .before .before .before .before .low .ensures; high-are = c .before .before .before .high .ensures; constants-are = c .before .constants .ensures })
+all-back-requires c κs = rw (c .before .before .before .before .before .before .before .enum-told .given .1) (search needs)
 
 all-back-requires-2 : tie.Need-all-back-requires-2
-all-back-requires-2 c κs =
-    rw (c .before .before .before .before .before .before .before .enum-told2 .given .1)
-    (c .before .before .before .before .before .before .before .before .before .before .before .pre, record { low-are = c .before .before .before .before .before .low2 .ensures; high-are = c .before .before .before .high2 .ensures; constants-are = c .before .constants2 .ensures })
+all-back-requires-2 c κs = rw (c .before .before .before .before .before .before .before .enum-told2 .given .1) (search needs)
 
 pub looked-up-back-spec : {M : Type 1} → statement M
 looked-up-back-spec =

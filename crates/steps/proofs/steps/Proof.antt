@@ -23,23 +23,8 @@ loop-holds : tie.Need-loop-holds Inv-loop μ-loop
 unfolding steps
 loop-holds c = (search needs, refl)
 
-add-two-rounds : tie.Need-add-two-rounds Inv-loop μ-loop
-add-two-rounds c = omega arith
-
 two-rounds-requires : tie.Need-two-rounds-requires Inv-loop μ-loop
-two-rounds-requires c κs = (omega arith, c .before .before .before .pre .1)
-
-add-tweakey : tie.Need-add-tweakey Inv-loop μ-loop
-add-tweakey c = omega arith
-
-add-tweakey-2 : tie.Need-add-tweakey-2 Inv-loop μ-loop
-add-tweakey-2 c = omega arith
-
-add-i : tie.Need-add-i Inv-loop μ-loop
-add-i c = omega arith
-
-loop-less : tie.Need-loop-less Inv-loop μ-loop
-loop-less c = omega arith
+two-rounds-requires c κs = record { few = omega arith; tables = c .before .before .before .pre .tables }
 
 loop-again : tie.Need-loop-again Inv-loop μ-loop
 loop-again c =
@@ -69,14 +54,14 @@ steps-spec =
     μ-loop
     loop-holds
     (λ c κs. search needs)
-    add-two-rounds
+    (λ c. omega arith)
     two-rounds-requires
     (λ c κs. search needs)
-    add-tweakey
-    add-tweakey-2
+    (λ c. omega arith)
+    (λ c. omega arith)
     (λ c κs. search needs)
     (λ c κs. search needs)
-    add-i
-    loop-less
+    (λ c. omega arith)
+    (λ c. omega arith)
     loop-again
     returns)

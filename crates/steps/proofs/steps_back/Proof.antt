@@ -23,20 +23,8 @@ abbrev μ-loop : tie.MeasureT-loop
 loop-holds : tie.Need-loop-holds Inv-loop μ-loop
 loop-holds c = (search needs, refl)
 
-add-tweakey : tie.Need-add-tweakey Inv-loop μ-loop
-add-tweakey c = omega arith
-
-sub-i : tie.Need-sub-i Inv-loop μ-loop
-sub-i c = omega arith
-
-add-two-rounds-back : tie.Need-add-two-rounds-back Inv-loop μ-loop
-add-two-rounds-back c = omega arith
-
 two-rounds-back-requires : tie.Need-two-rounds-back-requires Inv-loop μ-loop
-two-rounds-back-requires c κs = (omega arith, c .before .before .before .before .before .pre .1)
-
-loop-less : tie.Need-loop-less Inv-loop μ-loop
-loop-less c = omega arith
+two-rounds-back-requires c κs = record { few = omega arith; tables = c .before .before .before .before .before .pre .tables }
 
 loop-again : tie.Need-loop-again Inv-loop μ-loop
 loop-again c =
@@ -67,14 +55,14 @@ steps-back-spec =
     Inv-loop
     μ-loop
     loop-holds
-    add-tweakey
+    (λ c. omega arith)
     (λ c κs. search needs)
     (λ c κs. search needs)
-    sub-i
+    (λ c. omega arith)
     (λ c κs. search needs)
-    add-two-rounds-back
+    (λ c. omega arith)
     two-rounds-back-requires
     (λ c κs. search needs)
-    loop-less
+    (λ c. omega arith)
     loop-again
     returns)

@@ -21,34 +21,16 @@ loop-holds : tie.Need-loop-holds Inv-loop μ-loop
 unfolding turns
 loop-holds c = (search needs, refl)
 
-mul-wide : tie.Need-mul-wide Inv-loop μ-loop
-mul-wide c = omega arith
-
-add-wide : tie.Need-add-wide Inv-loop μ-loop
-add-wide c = omega arith
-
-add-wide-2 : tie.Need-add-wide-2 Inv-loop μ-loop
-add-wide-2 c = omega arith
-
-element-copy-out-wide : tie.Need-element-copy-out-wide Inv-loop μ-loop
-element-copy-out-wide c = omega arith
-
 round-requires : tie.Need-round-requires Inv-loop μ-loop
 round-requires c κs =
-    let t = c .before .before .before .before .pre .1 in
+    let t = c .before .before .before .before .pre .tables in
     (t .low-are, t .high-are)
-
-add-p : tie.Need-add-p Inv-loop μ-loop
-add-p c = omega arith
-
-loop-less : tie.Need-loop-less Inv-loop μ-loop
-loop-less c = omega arith
 
 loop-again : tie.Need-loop-again Inv-loop μ-loop
 loop-again c =
     let h = c .before .before .before .before in
     let a = h .before .args in
-    let v = constant-at (a .c .now) (h .before .pre .1 .constants-are) (2 * a .s + h .loop .p + 1) (omega arith) in
+    let v = constant-at (a .c .now) (h .before .pre .tables .constants-are) (2 * a .s + h .loop .p + 1) (omega arith) in
     let q = parts (a .k) in
     let r = c .before .wide .result in (
       omega arith,
@@ -69,13 +51,13 @@ two-rounds-spec =
     Inv-loop
     μ-loop
     loop-holds
-    mul-wide
-    add-wide
-    add-wide-2
-    element-copy-out-wide
+    (λ c. omega arith)
+    (λ c. omega arith)
+    (λ c. omega arith)
+    (λ c. omega arith)
     (λ c κs. search needs)
     round-requires
-    add-p
-    loop-less
+    (λ c. omega arith)
+    (λ c. omega arith)
     loop-again
     returns)

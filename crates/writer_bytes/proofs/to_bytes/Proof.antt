@@ -69,7 +69,8 @@ module _ (c : tie.After-put-at) where
   keyed : Front (to-key of-2) 32 32 (c .put-at .last .0)
   keyed =
       let s = c .before .before .before .before .before .before .before .before in
-      block-put (numbered (c .before .before .before)) 16 (omega arith) (of-2 .key) (rw length-map at (s .good .0 .1 .1 .1 .0 .1 .0 .1)) (c .put-at .last .0) (c .put-at .ensures)
+      block-put (numbered (c .before .before .before)) 16 (omega arith) (of-2 .key) (rw length-map at (s .good .0 .1 .1 .1 .0 .1 .0 .1))
+      (c .put-at .last .0) (c .put-at .ensures)
 
 module _ (c : tie.After-put2) where
   abbrev of-3 : Writer

@@ -6,7 +6,7 @@ use native.Mathlib.Omega.{arith}
 use borrow.Author.Tests.{ltb-true}
 use lib.Dec.{ltb}
 use lib.ListN.{length, getD, take}
-use Rattle.bits.specs.Bytes.{numberOf}
+use Rattle.bits.specs.Bytes.{Bytes, numberOf}
 use Rattle.fields.proofs.Reading.{number-below, number-next, taken-all}
 use Rattle.fields.proofs.number.of.Statement.{statement}
 use Rattle.fields.proofs.number.of.Tie as tie
@@ -33,7 +33,8 @@ then-requires : tie.Need-then-requires Inv-loop μ-loop
 then-requires c κs =
     let h = c .before .before in
     let s = h .before .before .args .s .now in
-    omega (arith, h .loop .inv .2, number-below s (h .loop .i) (record { fit = λ j. omega (arith, c .shared-slice-known2 .given j) }) 7 (omega (arith, within (c .before) .1)))
+    let bytes : Bytes s = record { fit = λ j. omega (arith, c .shared-slice-known2 .given j) } in
+    omega (arith, h .loop .inv .2, number-below s (h .loop .i) bytes 7 (omega (arith, within (c .before) .1)))
 
 loop-again : tie.Need-loop-again Inv-loop μ-loop
 loop-again c =
