@@ -95,14 +95,7 @@ pub fn open_tests(suite: Suite, k: usize, n: usize, a: usize, s: usize, o: usize
     sealed_tests(suite, k, n, a, s, output)
 }
 
-// The tests of opening without an output.
-pub fn verify_tests(suite: Suite, k: usize, n: usize, a: usize, s: usize) -> Answer
-    ensures { λ r. ⌜ r ≡ verifyTests (suite .cipher) (suite .steps) k n a s ⌝ }
-{
-    sealed_tests(suite, k, n, a, s, Answer::Done)
-}
-
-// The same, of a text of m bytes with the tag apart.
+// The tests of opening without an output, of a text of m bytes with the tag apart.
 pub fn apart_tests(suite: Suite, k: usize, n: usize, a: usize, m: usize) -> Answer
     ensures { λ r. ⌜ r ≡ verifyTests (suite .cipher) (suite .steps) k n a (m + 16) ⌝ }
 {
