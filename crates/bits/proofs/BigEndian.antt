@@ -2,7 +2,22 @@
 use mathlib.Core.Path.{_≡_, refl, sym, ap, _∙_}
 use mathlib.Core.List.{List, [], _∷_, _++_, head-eq-of-cons-eq, tail-eq-of-cons-eq}
 use Prim.Native.Nat.{ℕ, zero, suc, _+_, _*_, _/_, _%_, _^_, _≤_, _<_}
-use native.Mathlib.Nat.{zero-lt-suc, one-le-pow, pow-succ', mul-assoc, mul-add-div-right, mul-add-mod-self-right, mod-lt, mod-eq-of-lt, div-add-mod', div-lt-iff-lt-mul, div-eq-of-lt, mul-le-mul-right, div-div-eq-div-mul, pow-suc}
+use native.Mathlib.Nat.{
+  zero-lt-suc,
+  one-le-pow,
+  pow-succ',
+  mul-assoc,
+  mul-add-div-right,
+  mul-add-mod-self-right,
+  mod-lt,
+  mod-eq-of-lt,
+  div-add-mod',
+  div-lt-iff-lt-mul,
+  div-eq-of-lt,
+  mul-le-mul-right,
+  div-div-eq-div-mul,
+  pow-suc,
+}
 use native.Mathlib.Omega.{arith}
 use lib.ListN.{length, getD, set, take, length-append}
 use lib.Seq.{set-at, take-suc, append-snoc, length-take-le}
@@ -87,13 +102,16 @@ numberOf-snoc [] b = omega arith
 numberOf-snoc (a ∷ s) b =
     let long : length (s ++ b ∷ []) ≡ suc (length s) = length-append s (b ∷ []) ∙ omega arith in
     let e : 256 ^ length (s ++ b ∷ []) ≡ 256 * 256 ^ length s = ap (λ (n : ℕ). 256 ^ n) long ∙ pow-succ' 256 (length s) in
-    ap (λ (x : ℕ). a * x + numberOf (s ++ b ∷ [])) e ∙ ap (λ (x : ℕ). a * (256 * 256 ^ length s) + x) (numberOf-snoc s b) ∙ omega (arith, mul-assoc a 256 (256 ^ length s))
+    ap (λ (x : ℕ). a * x + numberOf (s ++ b ∷ [])) e
+    ∙ ap (λ (x : ℕ). a * (256 * 256 ^ length s) + x) (numberOf-snoc s b)
+    ∙ omega (arith, mul-assoc a 256 (256 ^ length s))
 
 -- written from the back: what is left of a number, and one byte more of it
 pub number-rest : (k v : ℕ) → v / 256 ^ k / 256 ≡ v / 256 ^ suc k
 number-rest k v = div-div-eq-div-mul v (256 ^ k) 256 ∙ ap (λ (p : ℕ). v / p) (sym (pow-suc 256 k))
 
-pub number-more : (b rest : List ℕ) (i k v : ℕ) → i < length b → set (take (suc i) b ++ (bigEndian k v ++ rest)) i (v / 256 ^ k % 256) ≡ take i b ++ (bigEndian (suc k) v ++ rest)
+pub number-more : (b rest : List ℕ) (i k v : ℕ) → i < length b
+    → set (take (suc i) b ++ (bigEndian k v ++ rest)) i (v / 256 ^ k % 256) ≡ take i b ++ (bigEndian (suc k) v ++ rest)
 unfolding bigEndian
 number-more b rest i k v h =
     ap (λ (r : List ℕ). set (r ++ (bigEndian k v ++ rest)) i (v / 256 ^ k % 256)) (take-suc b i 0 h)

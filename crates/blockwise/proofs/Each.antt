@@ -1,13 +1,13 @@
 -- Many blocks: what a loop over them does at each turn, and single blocks of the outcome.
 use mathlib.Core.Path.{_≡_, refl, sym, ap, _∙_}
-use mathlib.Core.List.{List, [], _∷_, _++_, append-assoc, append-nil}
-use Prim.Native.Nat.{ℕ, zero, suc, _+_, _*_, _/_, _≤_, _<_, min}
+use mathlib.Core.List.{List, [], _++_, append-assoc, append-nil}
+use Prim.Native.Nat.{ℕ, zero, suc, _+_, _-_, _*_, _/_, _≤_, _<_, min}
 use native.Mathlib.Decide.{ℕ-discrete}
-use native.Mathlib.Nat.{le-of-eq}
+use native.Mathlib.Nat.{le-of-eq, add-zero, add-suc}
 use native.Mathlib.Numerals.{add-one}
 use native.Mathlib.Omega.{arith}
-use lib.ListN.{length, take, drop, length-append, length-drop, length-take, drop-of-length-le}
-use lib.Seq.{paste, take-at, drop-at, drop-drop, take-all, take-append-seam, length-take-le}
+use lib.ListN.{length, take, drop, length-append, length-drop, drop-of-length-le, take-append-drop}
+use lib.Seq.{paste, take-at, drop-at, drop-drop, take-all, take-append-le, drop-append-le, length-take-le}
 use Rattle.blockwise.specs.Blocks.{block, strung, eachOf, eachBlock}
 
 -- a function that makes a block of two blocks
@@ -16,6 +16,22 @@ pub record Blockwise (f : List ℕ → List ℕ → List ℕ) : Type 0 where
 
 pub block-long : (l : List ℕ) (i : ℕ) → 16 * i + 16 ≤ length l → length (block l i) ≡ 16
 block-long l i h = length-take-le 16 (drop (16 * i) l) (rw (length-drop (16 * i) l) (omega arith))
+
+-- block i of what follows the first k blocks
+pub block-later : (k i : ℕ) (x : List ℕ) → block (drop (16 * k) x) i ≡ block x (k + i)
+block-later k i x =
+    let at : 16 * k + 16 * i ≡ 16 * (k + i) = omega arith in
+    ap (take 16) (drop-drop (16 * i) (16 * k) x ∙ ap (λ (j : ℕ). drop j x) at)
+
+-- a block within the first of two strings, and one of a front
+pub block-append : (x y : List ℕ) (i : ℕ) → 16 * i + 16 ≤ length x → block (x ++ y) i ≡ block x i
+block-append x y i h =
+    ap (take 16) (drop-append-le (16 * i) x y (omega arith)) ∙ take-append-le 16 (drop (16 * i) x) y (rw length-drop (omega arith))
+
+pub block-taken : (k : ℕ) (s : List ℕ) → 16 * k ≤ length s → (i : ℕ) → i < k → block (take (16 * k) s) i ≡ block s i
+block-taken k s room i l =
+    let long = length-take-le (16 * k) s room in
+    sym (block-append (take (16 * k) s) (drop (16 * k) s) i (omega arith)) ∙ ap (λ (x : List ℕ). block x i) (take-append-drop (16 * k) s)
 
 module _ (f : List ℕ → List ℕ → List ℕ) (k : Blockwise f) (t b : List ℕ) where
   done : ℕ → List ℕ
@@ -59,34 +75,54 @@ module _ (f : List ℕ → List ℕ → List ℕ) (k : Blockwise f) (t b : List 
       sym (drop-drop 16 (16 * n) (eachOf f n t b)) ∙ ap (drop 16) rest ∙ drop-drop 16 (16 * n) b ∙ ap (λ (m : ℕ). drop m b) sixteens in
       (λ i. front i ++ middle i ++ end i) ∙ sym (ap (λ (m : ℕ). eachOf f m t b) (add-one n))
 
--- blocks that are strung: how long they are, and block i of them
+-- blocks that are strung: how long they are, and in two parts
 pub strung-whole : (n : ℕ) (g : ℕ → List ℕ) → ((i : ℕ) → i < n → length (g i) ≡ 16) → length (strung n g) ≡ 16 * n
 unfolding strung
 strung-whole zero g h = refl
 strung-whole (suc n) g h =
     length-append (strung n g) (g n) ∙ omega (arith, strung-whole n g (λ i l. h i (omega arith)), h n (omega arith))
 
-block-strung : (g : ℕ → List ℕ) (n : ℕ) (rest : List ℕ) → ((i : ℕ) → i < n → length (g i) ≡ 16) → (i : ℕ) → i < n → block (strung n g ++ rest) i ≡ g i
+pub strung-add : (n k : ℕ) (g : ℕ → List ℕ) → strung (n + k) g ≡ strung n g ++ strung k (λ i. g (n + i))
 unfolding strung
-block-strung g zero rest h i l = absurd (omega arith)
-block-strung g (suc n) rest h i l =
-    ap (λ (x : List ℕ). block x i) (append-assoc (strung n g) (g n) rest)
-    ∙ last (ℕ-discrete i n) (λ k. block-strung g n (g n ++ rest) (λ j m. h j (omega arith)) i k)
+strung-add n zero g = rw add-zero (sym (append-nil (strung n g)))
+strung-add n (suc k) g =
+    ap (λ (m : ℕ). strung m g) (add-suc n k)
+    ∙ ap (λ (x : List ℕ). x ++ g (n + k)) (strung-add n k g)
+    ∙ append-assoc (strung n g) (strung k (λ i. g (n + i))) (g (n + k))
+
+-- block i of strung blocks, of which only the last may be shorter
+pub block-of-strung : (n : ℕ) (g : ℕ → List ℕ) → ((i : ℕ) → suc i < n → length (g i) ≡ 16) → ((i : ℕ) → i < n → length (g i) ≤ 16)
+    → (i : ℕ) → i < n → block (strung n g) i ≡ g i
+unfolding strung
+block-of-strung n g whole short i h =
+    ap (λ (x : List ℕ). block x i) split
+    ∙ ap (take 16) (drop-at (strung i g) (g i ++ rest) (16 * i) (strung-whole i g (λ j l. whole j (omega arith))))
+    ∙ first (ℕ-discrete n (suc i))
   where
-    last : Dec (i ≡ n) → (i < n → block (strung n g ++ (g n ++ rest)) i ≡ g i) → block (strung n g ++ (g n ++ rest)) i ≡ g i
-    last (yes e) r =
-        rw e
-        (ap (take 16) (drop-at (strung n g) (g n ++ rest) (16 * n) (strung-whole n g (λ j m. h j (omega arith))))
-        ∙ take-at (g n) rest 16 (h n (omega arith)))
-    last (no d) r = r (omega arith)
+    rest : List ℕ
+    rest = strung (n - suc i) (λ j. g (suc i + j))
+
+    split : strung n g ≡ strung i g ++ (g i ++ rest)
+    split =
+        let parts : n ≡ suc i + (n - suc i) = omega arith in
+        ap (λ (m : ℕ). strung m g) parts ∙ strung-add (suc i) (n - suc i) g ∙ append-assoc (strung i g) (g i) rest
+
+    first : Dec (n ≡ suc i) → take 16 (g i ++ rest) ≡ g i
+    first (yes e) =
+        let none : n - suc i ≡ 0 = omega arith in
+        rw (none, append-nil) (take-all 16 (g i) (short i h))
+    first (no d) = take-at (g i) rest 16 (whole i (omega arith))
 
 -- Each whole block of the outcome is f of its tweak and itself; what is behind them is as it was.
 pub block-of-each : (f : List ℕ → List ℕ → List ℕ) → Blockwise f → (t b : List ℕ) (i : ℕ) → i < min (length t) (length b) / 16
     → block (eachBlock f t b) i ≡ f (block t i) (block b i)
 unfolding eachBlock eachOf
 block-of-each f k t b i h =
-    block-strung (λ i. f (block t i) (block b i)) (min (length t) (length b) / 16) (drop (16 * (min (length t) (length b) / 16)) b)
-    (λ j l. k .long (block t j) (block b j) (block-long t j (omega arith)) (block-long b j (omega arith))) i h
+    let n = min (length t) (length b) / 16 in
+    let g : ℕ → List ℕ = λ j. f (block t j) (block b j) in
+    let long : (j : ℕ) → j < n → length (g j) ≡ 16 = λ j l. k .long (block t j) (block b j) (block-long t j (omega arith)) (block-long b j (omega arith)) in
+    block-append (strung n g) (drop (16 * n) b) i (omega (arith, strung-whole n g long))
+    ∙ block-of-strung n g (λ j l. long j (omega arith)) (λ j l. le-of-eq (long j l)) i h
 
 pub rest-of-each : (f : List ℕ → List ℕ → List ℕ) → Blockwise f → (t b : List ℕ)
     → drop (16 * (min (length t) (length b) / 16)) (eachBlock f t b) ≡ drop (16 * (min (length t) (length b) / 16)) b

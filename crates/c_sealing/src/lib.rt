@@ -3,9 +3,10 @@ use opening::open::OpenAnswer;
 use sealing::seal::SealAnswer;
 use suites::suite::Suite;
 ghost use mathlib.Core.Path.{_≡_};
-ghost use Rattle.opening.specs.Open.{openAnswer, openBuffer};
-ghost use Rattle.sealing.specs.Seal.{sealAnswer, sealBuffer};
-ghost use Rattle.c_sealing.specs.Sealed.{sealReturned, sealLength, sealCalls, openReturned, openLength};
+ghost use mathlib.Core.List.{[], _∷_};
+ghost use Rattle.sealing.specs.Seal.{sealAnswer, sealBuffer, sealTold};
+ghost use Rattle.opening.specs.Open.{openAnswer, openBuffer, openTold};
+ghost use Rattle.returned.specs.Returned.{Returns};
 
 #[no_mangle]
 pub extern "C" fn sb_seal(
@@ -19,7 +20,13 @@ pub extern "C" fn sb_seal(
     len: &mut u64,
     calls: &mut u64,
 ) -> u32
-    ensures { λ r. ⌜ (r ≡ sealReturned (sealAnswer cipher steps (now (key .entry)) (now (nonce .entry)) (now (header .entry)) (now (text .entry)) (now (out .entry)))) × (now (out .exit) ≡ sealBuffer cipher steps (now (key .entry)) (now (nonce .entry)) (now (header .entry)) (now (text .entry)) (now (out .entry))) × (now (len .exit) ≡ sealLength (sealAnswer cipher steps (now (key .entry)) (now (nonce .entry)) (now (header .entry)) (now (text .entry)) (now (out .entry))) (now (len .entry))) × (now (calls .exit) ≡ sealCalls (sealAnswer cipher steps (now (key .entry)) (now (nonce .entry)) (now (header .entry)) (now (text .entry)) (now (out .entry))) (now (calls .entry))) ⌝ }
+    ensures { λ r. ⌜ Returns
+        (sealTold (sealAnswer cipher steps (now (key .entry)) (now (nonce .entry)) (now (header .entry)) (now (text .entry)) (now (out .entry))))
+        (now (len .entry) ∷ now (calls .entry) ∷ [])
+        r
+        (now (len .exit) ∷ now (calls .exit) ∷ [])
+        × (now (out .exit)
+        ≡ sealBuffer cipher steps (now (key .entry)) (now (nonce .entry)) (now (header .entry)) (now (text .entry)) (now (out .entry))) ⌝ }
 {
     let answer = sealing::seal::seal(Suite { cipher, steps }, key, nonce, header, text, out);
     match answer {
@@ -43,7 +50,13 @@ pub extern "C" fn sb_open(
     out: &mut [u8],
     len: &mut u64,
 ) -> u32
-    ensures { λ r. ⌜ (r ≡ openReturned (openAnswer cipher steps (now (key .entry)) (now (nonce .entry)) (now (header .entry)) (now (sealed .entry)) (now (out .entry)))) × (now (out .exit) ≡ openBuffer cipher steps (now (key .entry)) (now (nonce .entry)) (now (header .entry)) (now (sealed .entry)) (now (out .entry))) × (now (len .exit) ≡ openLength (openAnswer cipher steps (now (key .entry)) (now (nonce .entry)) (now (header .entry)) (now (sealed .entry)) (now (out .entry))) (now (len .entry))) ⌝ }
+    ensures { λ r. ⌜ Returns
+        (openTold (openAnswer cipher steps (now (key .entry)) (now (nonce .entry)) (now (header .entry)) (now (sealed .entry)) (now (out .entry))))
+        (now (len .entry) ∷ [])
+        r
+        (now (len .exit) ∷ [])
+        × (now (out .exit)
+        ≡ openBuffer cipher steps (now (key .entry)) (now (nonce .entry)) (now (header .entry)) (now (sealed .entry)) (now (out .entry))) ⌝ }
 {
     let answer = opening::open::open(Suite { cipher, steps }, key, nonce, header, sealed, out);
     match answer {

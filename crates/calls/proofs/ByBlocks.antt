@@ -14,7 +14,23 @@ use Rattle.blockwise.specs.Blocks.{block}
 use Rattle.blockwise.proofs.Each.{Blockwise, block-long}
 use Rattle.calls.specs.Tweak.{tweak, textTweak, headerTweak, specialTweak, blocksOf, inner, lastTextMark, lastHeaderMark, tagMark}
 use Rattle.calls.specs.Calls.{CipherCall, filled, lengthBlock, sumOf, checksum, headerCall, textCall, tagCall, blockCalls, calls}
-use Rattle.calls.specs.Sealing.{Outcome, run, isText, outcomeAt, placed, tagPart, tagOf, assembled, ahead, sealing, openedTag, back, openOutcomes, opening, openingTag}
+use Rattle.calls.specs.Sealing.{
+  Outcome,
+  run,
+  isText,
+  outcomeAt,
+  placed,
+  tagPart,
+  tagOf,
+  assembled,
+  ahead,
+  sealing,
+  openedTag,
+  back,
+  openOutcomes,
+  opening,
+  openingTag,
+}
 use Rattle.calls.specs.Pieces.{piece, through, headerSum, tagFrom}
 use Rattle.calls.proofs.Tweaks.{length-tweak}
 use Rattle.calls.proofs.Strung.{strung-ext, length-strung, block-short}

@@ -3,7 +3,30 @@ use mathlib.Core.Path.{_≡_, refl, sym, ap, _∙_, subst}
 use mathlib.Core.HLevel.{⊥-prop, ¬-prop}
 use mathlib.Core.Logic.{_≢_, _⊎_, inl, inr, ∥∥₁-elim}
 use mathlib.Core.Bool.{Bool, true, false, cond}
-use mathlib.Core.List.{List, [], _∷_, _++_, map, map-append, List·Mem, List·Memᴰ, List·Memᴰ·head, List·Memᴰ·tail, List·Memᴰ·not-nil, List·Memᴰ·append-cases, List·Memᴰ·eq-of-singleton, Memᴰ·of-map, Disjoint, Pairwise·nil, Pairwise·cons, Pairwise·imp-of-mem, Pairwise·map′, pairwise-singleton, List·Nodup, nodup-append}
+use mathlib.Core.List.{
+  List,
+  [],
+  _∷_,
+  _++_,
+  map,
+  map-append,
+  List·Mem,
+  List·Memᴰ,
+  List·Memᴰ·head,
+  List·Memᴰ·tail,
+  List·Memᴰ·not-nil,
+  List·Memᴰ·append-cases,
+  List·Memᴰ·eq-of-singleton,
+  Memᴰ·of-map,
+  Disjoint,
+  Pairwise·nil,
+  Pairwise·cons,
+  Pairwise·imp-of-mem,
+  Pairwise·map′,
+  pairwise-singleton,
+  List·Nodup,
+  nodup-append,
+}
 use Prim.Native.Nat.{ℕ, zero, suc, _+_, _-_, _*_, _^_, _≤_, _<_, suc-le-suc}
 use native.Mathlib.Nat.{zero-lt-suc, mul-le-mul-right, pow-succ'}
 use native.Mathlib.Omega.{arith}

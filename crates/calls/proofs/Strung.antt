@@ -1,30 +1,19 @@
 -- Strings cut into blocks of 16 of which only the last may be shorter.
 use mathlib.Core.Path.{_≡_, refl, sym, ap, _∙_}
-use mathlib.Core.List.{List, _++_, append-assoc, append-nil}
-use Prim.Native.Nat.{ℕ, zero, suc, _+_, _-_, _*_, _≤_, _<_}
-use native.Mathlib.Decide.{ℕ-discrete}
-use native.Mathlib.Nat.{add-zero, add-suc}
+use mathlib.Core.List.{List, _++_}
+use Prim.Native.Nat.{ℕ, zero, suc, _+_, _*_, _≤_, _<_}
 use native.Mathlib.Omega.{arith}
 use lib.ListN.{length, take, drop, length-append, length-take}
-use lib.Seq.{take-at, drop-at, take-add, take-all}
+use lib.Seq.{take-add, take-all}
 use Rattle.bits.specs.Bytes.{Bytes}
 use Rattle.bits.proofs.Bytes.{bytes-nil, bytes-append, bytes-take, bytes-drop}
 use Rattle.blockwise.specs.Blocks.{block, strung}
-use Rattle.blockwise.proofs.Each.{strung-whole}
 use Rattle.calls.specs.Tweak.{blocksOf}
 
 pub strung-ext : (n : ℕ) (f g : ℕ → List ℕ) → ((i : ℕ) → i < n → f i ≡ g i) → strung n f ≡ strung n g
 unfolding strung
 strung-ext zero f g h = refl
 strung-ext (suc n) f g h = λ j. strung-ext n f g (λ i l. h i (omega arith)) j ++ h n (omega arith) j
-
-pub strung-add : (n k : ℕ) (g : ℕ → List ℕ) → strung (n + k) g ≡ strung n g ++ strung k (λ i. g (n + i))
-unfolding strung
-strung-add n zero g = rw add-zero (sym (append-nil (strung n g)))
-strung-add n (suc k) g =
-    ap (λ (m : ℕ). strung m g) (add-suc n k)
-    ∙ ap (λ (x : List ℕ). x ++ g (n + k)) (strung-add n k g)
-    ∙ append-assoc (strung n g) (strung k (λ i. g (n + i))) (g (n + k))
 
 strung-front : (n : ℕ) (x : List ℕ) → strung n (block x) ≡ take (16 * n) x
 unfolding strung
@@ -46,28 +35,6 @@ strung-long (suc n) f g h =
 pub length-strung : (n : ℕ) (g : ℕ → List ℕ) (x : List ℕ) → n ≡ blocksOf (length x) → ((i : ℕ) → i < n → length (g i) ≡ length (block x i))
     → length (strung n g) ≡ length x
 length-strung n g x e h = strung-long n g (block x) h ∙ ap (λ (m : ℕ). length (strung m (block x))) e ∙ ap length (strung-blocks x)
-
-pub block-of-strung : (n : ℕ) (g : ℕ → List ℕ) → ((i : ℕ) → suc i < n → length (g i) ≡ 16) → ((i : ℕ) → i < n → length (g i) ≤ 16)
-    → (i : ℕ) → i < n → block (strung n g) i ≡ g i
-unfolding strung
-block-of-strung n g whole short i h =
-    ap (λ (x : List ℕ). block x i) split
-    ∙ ap (take 16) (drop-at (strung i g) (g i ++ rest) (16 * i) (strung-whole i g (λ j l. whole j (omega arith))))
-    ∙ first (ℕ-discrete n (suc i))
-  where
-    rest : List ℕ
-    rest = strung (n - suc i) (λ j. g (suc i + j))
-
-    split : strung n g ≡ strung i g ++ (g i ++ rest)
-    split =
-        let parts : n ≡ suc i + (n - suc i) = omega arith in
-        ap (λ (m : ℕ). strung m g) parts ∙ strung-add (suc i) (n - suc i) g ∙ append-assoc (strung i g) (g i) rest
-
-    first : Dec (n ≡ suc i) → take 16 (g i ++ rest) ≡ g i
-    first (yes e) =
-        let none : n - suc i ≡ 0 = omega arith in
-        rw (none, append-nil) (take-all 16 (g i) (short i h))
-    first (no d) = take-at (g i) rest 16 (whole i (omega arith))
 
 pub block-short : (x : List ℕ) (i : ℕ) → length (block x i) ≤ 16
 block-short x i = rw length-take (omega arith)

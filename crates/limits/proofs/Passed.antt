@@ -2,14 +2,22 @@
 use mathlib.Core.Path.{_≡_, refl, ap, _∙_}
 use mathlib.Core.Bool.{Bool, true, false, _&&_, and-eq-true-iff}
 use Prim.Native.Nat.{ℕ, _+_, _-_, _*_, _^_, _≤_}
-use native.Mathlib.Nat.{min-le-left, min-le-right}
+use native.Mathlib.Nat.{min-le-right}
 use native.Mathlib.Omega.{arith}
 use borrow.Author.Tests.{leb-true, eqb-true, le-leb, eq-eqb}
 use lib.Dec.{eqb, leb}
 use Rattle.suites.specs.declared.refusal.Answer.{Answer}
 use Rattle.suites.specs.declared.refusal.Answer.the-variants.{Done}
 use Rattle.suites.specs.declared.refusal.Refusal.{Refusal}
-use Rattle.suites.specs.declared.refusal.Refusal.the-variants.{SuiteNotListed, KeyLength, NonceLength, HeaderTooLong, SealedTooShort, TextTooLong, OutputTooShort}
+use Rattle.suites.specs.declared.refusal.Refusal.the-variants.{
+  SuiteNotListed,
+  KeyLength,
+  NonceLength,
+  HeaderTooLong,
+  SealedTooShort,
+  TextTooLong,
+  OutputTooShort,
+}
 use Rattle.suites.specs.Suite.{listed}
 use Rattle.limits.specs.Limits.{headerLimit, textLimit}
 use Rattle.limits.specs.Tests.{unless, inputTests, sealTests, sealedTests, openTests, verifyTests}
@@ -18,17 +26,9 @@ pub header-limit-most : (n : ℕ) → headerLimit n ≤ 2 ^ 24
 unfolding headerLimit
 header-limit-most n = min-le-right (2 ^ (130 - 8 * n)) (2 ^ 24)
 
-pub header-limit-nonce : (n : ℕ) → headerLimit n ≤ 2 ^ (130 - 8 * n)
-unfolding headerLimit
-header-limit-nonce n = min-le-left (2 ^ (130 - 8 * n)) (2 ^ 24)
-
 pub text-limit-most : (n : ℕ) → textLimit n ≤ 2 ^ 24
 unfolding textLimit
 text-limit-most n = min-le-right (2 ^ (131 - 8 * n)) (2 ^ 24)
-
-pub text-limit-nonce : (n : ℕ) → textLimit n ≤ 2 ^ (131 - 8 * n)
-unfolding textLimit
-text-limit-nonce n = min-le-left (2 ^ (131 - 8 * n)) (2 ^ 24)
 
 -- a test and those after it are done where the test is true and those are done
 pub unless-passed : (ok : Bool) (why : Refusal) (rest : Answer) → unless ok why rest ≡ Done → (ok ≡ true) × (rest ≡ Done)

@@ -6,7 +6,7 @@ ghost use mathlib.Core.Path.{_≡_};
 ghost use Prim.Native.Nat.{_+_, _-_};
 ghost use lib.Dec.{leb};
 ghost use Rattle.limits.specs.Limits.{headerLimit, textLimit};
-ghost use Rattle.limits.specs.Tests.{unless, inputTests, sealTests, sealedTests, openTests, verifyTests};
+ghost use Rattle.limits.specs.Tests.{unless, inputTests, sealTests, openTests, verifyTests};
 
 // The most bytes that a header may have under a nonce of n bytes.
 pub fn header_limit(n: usize) -> usize
@@ -66,18 +66,11 @@ fn input_tests(suite: Suite, k: usize, n: usize, a: usize, rest: Answer) -> Answ
 pub fn seal_tests(suite: Suite, k: usize, n: usize, a: usize, m: usize, o: usize) -> Answer
     ensures { λ r. ⌜ r ≡ sealTests (suite .cipher) (suite .steps) k n a m o ⌝ }
 {
-    let output = unless(has_room(m, o), Refusal::OutputTooShort, Answer::Done);
-    let text = unless(m <= text_limit(n), Refusal::TextTooLong, output);
+    let room = has_room(m, o);
+    let fits = m <= text_limit(n);
+    let output = unless(room, Refusal::OutputTooShort, Answer::Done);
+    let text = unless(fits, Refusal::TextTooLong, output);
     input_tests(suite, k, n, a, text)
-}
-
-// 1 to 6 of s sealed bytes, then the rest.
-fn sealed_tests(suite: Suite, k: usize, n: usize, a: usize, s: usize, rest: Answer) -> Answer
-    ensures { λ r. ⌜ r ≡ sealedTests (suite .cipher) (suite .steps) k n a s rest ⌝ }
-{
-    let text = unless(text_of(s) <= text_limit(n), Refusal::TextTooLong, rest);
-    let sealed = unless(16 <= s, Refusal::SealedTooShort, text);
-    input_tests(suite, k, n, a, sealed)
 }
 
 // How long the text of s sealed bytes is, 0 where they are under 16.
@@ -91,18 +84,15 @@ fn text_of(s: usize) -> usize
 pub fn open_tests(suite: Suite, k: usize, n: usize, a: usize, s: usize, o: usize) -> Answer
     ensures { λ r. ⌜ r ≡ openTests (suite .cipher) (suite .steps) k n a s o ⌝ }
 {
-    let output = unless(text_of(s) <= o, Refusal::OutputTooShort, Answer::Done);
-    sealed_tests(suite, k, n, a, s, output)
+    let m = text_of(s);
+    let limit = text_limit(n);
+    let output = unless(m <= o, Refusal::OutputTooShort, Answer::Done);
+    let text = unless(m <= limit, Refusal::TextTooLong, output);
+    let sealed = unless(16 <= s, Refusal::SealedTooShort, text);
+    input_tests(suite, k, n, a, sealed)
 }
 
-// The tests of opening without an output.
-pub fn verify_tests(suite: Suite, k: usize, n: usize, a: usize, s: usize) -> Answer
-    ensures { λ r. ⌜ r ≡ verifyTests (suite .cipher) (suite .steps) k n a s ⌝ }
-{
-    sealed_tests(suite, k, n, a, s, Answer::Done)
-}
-
-// The same, of a text of m bytes with the tag apart.
+// The tests of opening without an output, of a text of m bytes with the tag apart.
 pub fn apart_tests(suite: Suite, k: usize, n: usize, a: usize, m: usize) -> Answer
     ensures { λ r. ⌜ r ≡ verifyTests (suite .cipher) (suite .steps) k n a (m + 16) ⌝ }
 {

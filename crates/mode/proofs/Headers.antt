@@ -7,21 +7,20 @@ use native.Mathlib.Nat.{le-of-eq}
 use native.Mathlib.Omega.{arith}
 use borrow.Author.Tests.{lt-ltb, le-ltb}
 use lib.ListN.{length, take, drop, replicate, length-append, length-drop}
-use lib.Seq.{take-at, take-all, drop-drop, length-take-le}
+use lib.Seq.{take-at, take-all, length-take-le}
 use Rattle.bits.specs.Bytes.{added}
 use Rattle.calls.specs.Calls.{sumOf, filled}
 use Rattle.calls.specs.Pieces.{headerSum}
 use Rattle.calls.specs.Tweak.{headerTweak, specialTweak, blocksOf, inner, lastHeaderMark}
-use Rattle.calls.proofs.Strung.{block-of-strung}
 use Rattle.calls.proofs.Tweaks.{length-tweak}
 use Rattle.cipher.specs.Entry.{encipheredBlocks}
 use Rattle.suites.specs.declared.suite.Suite.{Suite}
 use Rattle.blockwise.specs.Blocks.{block, strung}
-use Rattle.blockwise.proofs.Each.{block-long, strung-whole}
+use Rattle.blockwise.proofs.Each.{block-long, block-later, block-append, block-taken, block-of-strung, strung-whole}
 use Rattle.sums.specs.Sums.{sumFrom}
 use Rattle.text_blocks.specs.Text.{Usable}
 use Rattle.text_blocks.specs.Under.{enciphers}
-use Rattle.text_blocks.proofs.Chunks.{block-append, block-taken, enciphers-blockwise, enciphered-strung}
+use Rattle.text_blocks.proofs.Chunks.{enciphers-blockwise, enciphered-strung}
 use Rattle.sums.proofs.Sums.{part-rest, sum-ext, sum-add, sum-of, filled-whole}
 
 -- the first k blocks, copied over other bytes
@@ -65,9 +64,7 @@ sum-chunk e h sum n k p =
     (λ j. sumFrom ((p ∙ sym (sum-of n g)) j) k (λ i. e (n + i) (same i j))) ∙ sym (sum-add (replicate 16 0) n k g) ∙ sum-of (n + k) g
   where
     same : (i : ℕ) → block (take (length h - 16 * n) (drop (16 * n) h)) i ≡ block h (n + i)
-    same i =
-        let at : 16 * n + 16 * i ≡ 16 * (n + i) = omega arith in
-        ap (λ (x : List ℕ). block x i) (part-rest (16 * n) h) ∙ ap (take 16) (drop-drop (16 * i) (16 * n) h ∙ ap (λ (j : ℕ). drop j h) at)
+    same i = ap (λ (x : List ℕ). block x i) (part-rest (16 * n) h) ∙ block-later n i h
 
 -- all blocks: none, or the inner ones and the last
 module _ (e : List ℕ → List ℕ → List ℕ) (nonce h : List ℕ) where
@@ -91,7 +88,8 @@ module _ (e : List ℕ → List ℕ → List ℕ) (nonce h : List ℕ) where
         let b = take-all 16 (drop (16 * n) h) (rw length-drop (omega arith)) in
         λ j. e (cond (sym t j) (headerTweak nonce n) (specialTweak nonce (lastHeaderMark (length h)))) (filled 0x80 (sym b j))
 
-    pub header-all : added (sumOf n (λ i. e (headerTweak nonce i) (block h i))) (e (specialTweak nonce (lastHeaderMark (length h))) (filled 0x80 (drop (16 * n) h)))
+    pub header-all :
+        added (sumOf n (λ i. e (headerTweak nonce i) (block h i))) (e (specialTweak nonce (lastHeaderMark (length h))) (filled 0x80 (drop (16 * n) h)))
         ≡ headerSum e nonce h
     unfolding headerSum sumOf
     header-all =

@@ -22,8 +22,12 @@ fn chunk(
     header: &[u8],
     sum: [u8; 16],
 ) -> [u8; 16]
-    requires { ⌜ Usable suite (now nonce) × (k ≤ 64) × (16 * k ≤ length (now header)) × (first .0 + k < 2 ^ 64) ⌝ }
-    ensures { λ r. ⌜ r ≡ sumFrom sum k (λ i. enciphers suite key (headerTweak (now (nonce .entry)) (first .0 + i)) (block (now (header .entry)) i)) ⌝ }
+    requires { ⌜ Usable suite (now nonce)
+        × (k ≤ 64)
+        × (16 * k ≤ length (now header))
+        × (first .0 + k < 2 ^ 64) ⌝ }
+    ensures { λ r. ⌜ r
+        ≡ sumFrom sum k (λ i. enciphers suite key (headerTweak (now (nonce .entry)) (first .0 + i)) (block (now (header .entry)) i)) ⌝ }
 {
     let mut tweaks = [0u8; 1024];
     let mut blocks = [0u8; 1024];
@@ -36,7 +40,9 @@ fn chunk(
 
 // The first n blocks of the header, none of them last, enciphered and added up.
 fn inner(suite: Suite, key: [u8; 16], nonce: &[u8], header: &[u8], n: usize) -> [u8; 16]
-    requires { ⌜ Usable suite (now nonce) × (16 * n ≤ length (now header)) × (length (now header) ≤ 2 ^ 24) ⌝ }
+    requires { ⌜ Usable suite (now nonce)
+        × (16 * n ≤ length (now header))
+        × (length (now header) ≤ 2 ^ 24) ⌝ }
     ensures { λ r. ⌜ r ≡ sumOf n (λ i. enciphers suite key (headerTweak (now (nonce .entry)) i) (block (now (header .entry)) i)) ⌝ }
 {
     let mut sum = [0u8; 16];
@@ -61,7 +67,8 @@ fn inner(suite: Suite, key: [u8; 16], nonce: &[u8], header: &[u8], n: usize) -> 
 
 // All blocks of the header enciphered and added up; zero for an empty header.
 pub fn sum(suite: Suite, key: [u8; 16], nonce: &[u8], header: &[u8]) -> [u8; 16]
-    requires { ⌜ Usable suite (now nonce) × (length (now header) ≤ 2 ^ 24) ⌝ }
+    requires { ⌜ Usable suite (now nonce)
+        × (length (now header) ≤ 2 ^ 24) ⌝ }
     ensures { λ r. ⌜ r ≡ headerSum (enciphers suite key) (now (nonce .entry)) (now (header .entry)) ⌝ }
 {
     let a = header.len();

@@ -16,7 +16,7 @@ use Rattle.limits.specs.Limits.{headerLimit, textLimit}
 use Rattle.limits.specs.Tests.{openTests}
 use Rattle.limits.proofs.Passed.{open-passed, header-limit-most, text-limit-most}
 use Rattle.text_blocks.specs.Text.{Usable}
-use Rattle.opening.specs.Open.{ciphertext, opened, agrees, thenTag, openOutcome, openReport, openAnswer, openBuffer}
+use Rattle.opening.specs.Open.{ciphertext, opened, agrees, thenTag, byTag, openOutcome, openReport, openAnswer, openBuffer}
 use Rattle.sealing.specs.Passes.{Passable}
 use Rattle.sealing.specs.Seal.{written}
 use Rattle.opening.specs.declared.open.OpenAnswer.the-variants.{Refused as OpenRefused}
@@ -28,8 +28,8 @@ pub record Ready (s : Suite) (key nonce h x : List ℕ) : Type 0 where
   pub text : Passable s nonce (ciphertext x)
   pub long : 16 ≤ length x
 
-pub ready : (s : Suite) (key nonce h x : List ℕ) → listed (s .cipher) (s .steps) ≡ true → length key ≡ 16 → length nonce ≤ 15 → length h ≤ headerLimit (length nonce)
-    → 16 ≤ length x → length x - 16 ≤ textLimit (length nonce) → Ready s key nonce h x
+pub ready : (s : Suite) (key nonce h x : List ℕ) → listed (s .cipher) (s .steps) ≡ true → length key ≡ 16 → length nonce ≤ 15
+    → length h ≤ headerLimit (length nonce) → 16 ≤ length x → length x - 16 ≤ textLimit (length nonce) → Ready s key nonce h x
 ready s key nonce h x suite whole short header long text =
     let u : Usable s nonce = record { suite = suite; short = short } in
     let m : length (ciphertext x) ≡ length x - 16 = length-take-le (length x - 16) x (omega arith) in
@@ -41,7 +41,11 @@ ready s key nonce h x suite whole short header long text =
     }
 
 module _ (s : Suite) (key nonce h x out : List ℕ) where
-  pub open-refused : (why : Refusal) → openTests (s .cipher) (s .steps) (length key) (length nonce) (length h) (length x) (length out) ≡ Refused why
+  -- what the tests answer
+  abbrev pub tests : Answer
+  tests = openTests (s .cipher) (s .steps) (length key) (length nonce) (length h) (length x) (length out)
+
+  pub open-refused : (why : Refusal) → tests ≡ Refused why
       → (OpenRefused why ≡ openAnswer (s .cipher) (s .steps) key nonce h x out) × (out ≡ openBuffer (s .cipher) (s .steps) key nonce h x out)
   unfolding openOutcome openAnswer openBuffer
   open-refused why e = (
@@ -49,7 +53,7 @@ module _ (s : Suite) (key nonce h x out : List ℕ) where
     sym (ap (λ (a : Answer). written (thenTag a (agrees (s .cipher) (s .steps) key nonce h x)) (opened (s .cipher) (s .steps) key nonce h x) out) e),
   )
 
-  module _ (e : openTests (s .cipher) (s .steps) (length key) (length nonce) (length h) (length x) (length out) ≡ Done) where
+  module _ (e : tests ≡ Done) where
     pub open-ready : Ready s key nonce h x
     open-ready =
         let p = open-passed (s .cipher) (s .steps) (length key) (length nonce) (length h) (length x) (length out) e in
@@ -58,8 +62,8 @@ module _ (s : Suite) (key nonce h x out : List ℕ) where
     pub open-room : length x - 16 ≤ length out
     open-room = open-passed (s .cipher) (s .steps) (length key) (length nonce) (length h) (length x) (length out) e .room
 
-    pub open-done : (openReport (thenTag Done (agrees (s .cipher) (s .steps) key nonce h x)) (length x - 16) ≡ openAnswer (s .cipher) (s .steps) key nonce h x out)
-        × (written (thenTag Done (agrees (s .cipher) (s .steps) key nonce h x)) (opened (s .cipher) (s .steps) key nonce h x) out ≡ openBuffer (s .cipher) (s .steps) key nonce h x out)
+    pub open-done : (openReport (byTag s key nonce h x) (length x - 16) ≡ openAnswer (s .cipher) (s .steps) key nonce h x out)
+        × (written (byTag s key nonce h x) (opened (s .cipher) (s .steps) key nonce h x) out ≡ openBuffer (s .cipher) (s .steps) key nonce h x out)
     unfolding openOutcome openAnswer openBuffer
     open-done = (
       sym (ap (λ (a : Answer). openReport (thenTag a (agrees (s .cipher) (s .steps) key nonce h x)) (length x - 16)) e),

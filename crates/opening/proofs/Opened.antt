@@ -11,7 +11,8 @@ use Rattle.calls.specs.Pieces.{piece, through}
 use Rattle.calls.specs.Sealing.{openingTag}
 use Rattle.calls.specs.Tweak.{blocksOf}
 use Rattle.calls.proofs.ByBlocks.{opening-is, length-through}
-use Rattle.calls.proofs.Strung.{strung-ext, strung-add}
+use Rattle.blockwise.proofs.Each.{block-later, block-taken, strung-add}
+use Rattle.calls.proofs.Strung.{strung-ext}
 use Rattle.blockwise.specs.Blocks.{block, strung}
 use Rattle.suites.specs.declared.refusal.Answer.the-variants.{Done, Refused}
 use Rattle.suites.specs.declared.refusal.Refusal.the-variants.{TagDiffers}
@@ -19,10 +20,11 @@ use Rattle.suites.specs.declared.suite.Suite.{Suite}
 use Rattle.bits.specs.Bytes.{sameBytes}
 use Rattle.text_blocks.specs.Text.{Part}
 use Rattle.text_blocks.specs.Under.{enciphers, deciphers}
-use Rattle.text_blocks.proofs.Chunks.{block-taken, enciphers-blockwise, deciphers-blockwise}
-use Rattle.opening.specs.Open.{ciphertext, opened, agrees, thenTag}
+use Rattle.text_blocks.proofs.Chunks.{enciphers-blockwise, deciphers-blockwise}
+use Rattle.opening.specs.Open.{ciphertext, opened, agrees, thenTag, Compared}
+use Rattle.sealing.specs.Passes.{textOf, textPart}
 use Rattle.sealing.specs.Seal.{written}
-use Rattle.passes.proofs.Windows.{later, text, text-long, part-of-rest}
+use Rattle.passes.proofs.Windows.{text, text-long, part-of-rest}
 
 module _ (f e : List ℕ → List ℕ → List ℕ) (nonce : List ℕ) (m : ℕ) (c : List ℕ) (k : ℕ) (room : 16 * k ≤ length c) where
   pub through-split : through f e nonce m 0 c ≡ through f e nonce m 0 (take (16 * k) c) ++ through f e nonce m k (drop (16 * k) c)
@@ -38,7 +40,7 @@ module _ (f e : List ℕ → List ℕ → List ℕ) (nonce : List ℕ) (m : ℕ)
       (strung-ext k g (λ i. piece f e nonce m (0 + i) (block (take (16 * k) c) i)) (λ i h. ap (piece f e nonce m (0 + i)) (sym (block-taken k c room i h)))
       ∙ ap (λ (n : ℕ). strung n (λ i. piece f e nonce m (0 + i) (block (take (16 * k) c) i))) front)
       j
-      ++ strung rest (λ i. piece f e nonce m (zero-add (k + i) j) (sym (later k i c) j)))
+      ++ strung rest (λ i. piece f e nonce m (zero-add (k + i) j) (sym (block-later k i c) j)))
 
 -- what the first window leaves in `work`
 pub work-kept : (m : ℕ) (t w : List ℕ) → length t ≡ min m (length w) → length (t ++ drop (min m (length w)) w) ≡ length w
@@ -49,7 +51,7 @@ work-front m t w l = take-at t (drop (min m (length w)) w) (min m (length w)) l
 
 module _ (s : Suite) (key nonce : List ℕ) (short : length nonce ≤ 15) (c : List ℕ) (small : length c ≤ 2 ^ 24) where
   -- how much of the text the first window has
-  pub window-long : (w : ℕ) → w % 16 ≡ 0 → length (through (deciphers s key) (enciphers s key) nonce (length c) 0 (take (min (length c) w) c)) ≡ min (length c) w
+  pub window-long : (w : ℕ) → w % 16 ≡ 0 → length (textPart s key nonce c 0 (min (length c) w)) ≡ min (length c) w
   unfolding text
   window-long w whole =
       let p : Part (length c) 0 (min (length c) w) = rw (zero-left (length c)) at (part-of-rest (length c) 0 w (omega arith) small whole) in
@@ -59,7 +61,7 @@ module _ (s : Suite) (key nonce : List ℕ) (short : length nonce ≤ 15) (c : L
       zero-left m = omega arith
 
 module _ (s : Suite) (key nonce h x out : List ℕ) (short : length nonce ≤ 15) where
-  pub opened-is : opened (s .cipher) (s .steps) key nonce h x ≡ through (deciphers s key) (enciphers s key) nonce (length (ciphertext x)) 0 (ciphertext x)
+  pub opened-is : opened (s .cipher) (s .steps) key nonce h x ≡ textOf s key nonce (ciphertext x)
   unfolding opened
   opened-is = opening-is (enciphers s key) (deciphers s key) nonce h (ciphertext x)
 
@@ -70,26 +72,27 @@ module _ (s : Suite) (key nonce h x out : List ℕ) (short : length nonce ≤ 15
 
   -- the answer and the output where the tag agrees, and where it does not
   pub with-tag : agrees (s .cipher) (s .steps) key nonce h x ≡ true
-      → (Done ≡ thenTag Done (agrees (s .cipher) (s .steps) key nonce h x))
-      × (through (deciphers s key) (enciphers s key) nonce (length (ciphertext x)) 0 (ciphertext x) ++ drop (length (ciphertext x)) out
-      ≡ written (thenTag Done (agrees (s .cipher) (s .steps) key nonce h x)) (opened (s .cipher) (s .steps) key nonce h x) out)
-  with-tag e = (
-    ap (λ (b : Bool). thenTag Done b) (sym e),
-    (λ j. sym opened-is j ++ drop (sym opened-long j) out)
-        ∙ ap (λ (b : Bool). written (thenTag Done b) (opened (s .cipher) (s .steps) key nonce h x) out) (sym e),
-  )
+      → Compared s key nonce h x out Done (textOf s key nonce (ciphertext x) ++ drop (length (ciphertext x)) out)
+  with-tag e =
+      record {
+        answer = ap (λ (b : Bool). thenTag Done b) (sym e);
+        output =
+            (λ j. sym opened-is j ++ drop (sym opened-long j) out)
+            ∙ ap (λ (b : Bool). written (thenTag Done b) (opened (s .cipher) (s .steps) key nonce h x) out) (sym e);
+      }
 
-  pub without-tag : agrees (s .cipher) (s .steps) key nonce h x ≡ false
-      → (Refused TagDiffers ≡ thenTag Done (agrees (s .cipher) (s .steps) key nonce h x))
-      × (out ≡ written (thenTag Done (agrees (s .cipher) (s .steps) key nonce h x)) (opened (s .cipher) (s .steps) key nonce h x) out)
-  without-tag e = (
-    ap (λ (b : Bool). thenTag Done b) (sym e),
-    ap (λ (b : Bool). written (thenTag Done b) (opened (s .cipher) (s .steps) key nonce h x) out) (sym e),
-  )
+  pub without-tag : agrees (s .cipher) (s .steps) key nonce h x ≡ false → Compared s key nonce h x out (Refused TagDiffers) out
+  without-tag e =
+      record {
+        answer = ap (λ (b : Bool). thenTag Done b) (sym e);
+        output = ap (λ (b : Bool). written (thenTag Done b) (opened (s .cipher) (s .steps) key nonce h x) out) (sym e);
+      }
 
 -- the comparison that the code makes
 pub agrees-is : (s : Suite) (key nonce h x : List ℕ) → 16 ≤ length x
-    → sameBytes 16 (openingTag (enciphers s key) (deciphers s key) nonce h (ciphertext x)) (take 16 (drop (length x - 16) x)) ≡ agrees (s .cipher) (s .steps) key nonce h x
+    → sameBytes 16 (openingTag (enciphers s key) (deciphers s key) nonce h (ciphertext x)) (take 16 (drop (length x - 16) x))
+    ≡ agrees (s .cipher) (s .steps) key nonce h x
 unfolding agrees
 agrees-is s key nonce h x long =
-    ap (sameBytes 16 (openingTag (enciphers s key) (deciphers s key) nonce h (ciphertext x))) (take-all 16 (drop (length x - 16) x) (rw length-drop (omega arith)))
+    ap (sameBytes 16 (openingTag (enciphers s key) (deciphers s key) nonce h (ciphertext x)))
+    (take-all 16 (drop (length x - 16) x) (rw length-drop (omega arith)))

@@ -1,12 +1,14 @@
 -- What `open` answers, and what it leaves in the output.
+use mathlib.Core.Path.{_≡_}
 use mathlib.Core.Bool.{Bool}
 use mathlib.Core.List.{List, [], _∷_}
-use Prim.Native.Nat.{ℕ, _-_}
+use Prim.Native.Nat.{ℕ, _-_, _≤_}
 use lib.ListN.{length, take, drop}
 use Rattle.calls.specs.Sealing.{opening, openingTag}
 use Rattle.suites.specs.declared.refusal.Answer.{Answer}
 use Rattle.suites.specs.declared.refusal.Answer.the-variants.{Done, Refused}
 use Rattle.suites.specs.declared.refusal.Refusal.the-variants.{TagDiffers}
+use Rattle.suites.specs.declared.suite.Suite.{Suite}
 use Rattle.suites.specs.Refusal.{number}
 use Rattle.suites.specs.Suite.{cipherOf}
 use Rattle.suites.specs.Told.{Told, gives, refuses}
@@ -15,6 +17,7 @@ use Rattle.bits.specs.Bytes.{sameBytes}
 use Rattle.rounds.specs.Cipher.{encipher, decipher}
 use Rattle.opening.specs.declared.open.OpenAnswer.{OpenAnswer}
 use Rattle.opening.specs.declared.open.OpenAnswer.the-variants.{Opened, Refused as OpenRefused}
+use Rattle.sealing.specs.Passes.{Passable}
 use Rattle.sealing.specs.Seal.{written}
 
 -- "Sealed bytes are ciphertext, then tag."
@@ -35,6 +38,22 @@ agrees cipher steps key nonce header s =
 abbrev pub thenTag : Answer → Bool → Answer
 thenTag Done ok = unless ok TagDiffers Done
 thenTag (Refused why) ok = Refused why
+
+-- the answer where nothing but the tag is left to look at
+abbrev pub byTag : Suite → List ℕ → List ℕ → List ℕ → List ℕ → Answer
+byTag s key nonce header x = thenTag Done (agrees (s .cipher) (s .steps) key nonce header x)
+
+-- what the code asks for behind the tests 1 to 7
+pub record Tested (s : Suite) (nonce h x out : List ℕ) : Type 0 where
+  pub header : Passable s nonce h
+  pub text : Passable s nonce (ciphertext x)
+  pub long : 16 ≤ length x
+  pub room : length x - 16 ≤ length out
+
+-- and what it then answers, and leaves in the output
+pub record Compared (s : Suite) (key nonce header x out : List ℕ) (r : Answer) (left : List ℕ) : Type 0 where
+  pub answer : r ≡ byTag s key nonce header x
+  pub output : left ≡ written (byTag s key nonce header x) (opened (s .cipher) (s .steps) key nonce header x) out
 
 -- "Open: 1 to 8."
 unfoldable pub openOutcome : ℕ → ℕ → List ℕ → List ℕ → List ℕ → List ℕ → List ℕ → Answer

@@ -6,12 +6,8 @@ ghost use mathlib.Core.Path.{_≡_};
 ghost use mathlib.Core.List.{_++_};
 ghost use Prim.Native.Nat.{_-_, _%_, _≤_, min};
 ghost use lib.ListN.{length, take, drop};
-ghost use Rattle.calls.specs.Pieces.{through};
-ghost use Rattle.suites.specs.declared.refusal.Answer.the-variants.{Done};
-ghost use Rattle.text_blocks.specs.Under.{enciphers, deciphers};
-ghost use Rattle.opening.specs.Open.{ciphertext, opened, agrees, thenTag, openReport, openAnswer, openBuffer};
-ghost use Rattle.sealing.specs.Passes.{Passable};
-ghost use Rattle.sealing.specs.Seal.{written};
+ghost use Rattle.opening.specs.Open.{Tested, Compared, openReport, openAnswer, openBuffer};
+ghost use Rattle.sealing.specs.Passes.{Passable, textOf, textPart};
 
 // The length of the text, or the refusal.
 pub enum OpenAnswer {
@@ -21,8 +17,13 @@ pub enum OpenAnswer {
 
 // The text of the ciphertext c at the output's start, where `work` has its first bytes.
 fn hand_out(suite: Suite, key: [u8; 16], nonce: &[u8], c: &[u8], work: &[u8], out: &mut [u8])
-    requires { ⌜ Passable suite (now nonce) (now c) × (length (now c) ≤ length (now out)) × (length (now work) % 16 ≡ 0) × (take (min (length (now c)) (length (now work))) (now work) ≡ through (deciphers suite key) (enciphers suite key) (now nonce) (length (now c)) 0 (take (min (length (now c)) (length (now work))) (now c))) ⌝ }
-    ensures { λ r. ⌜ now (out .exit) ≡ through (deciphers suite key) (enciphers suite key) (now (nonce .entry)) (length (now (c .entry))) 0 (now (c .entry)) ++ drop (length (now (c .entry))) (now (out .entry)) ⌝ }
+    requires { ⌜ Passable suite (now nonce) (now c)
+        × (length (now c) ≤ length (now out))
+        × (length (now work) % 16 ≡ 0)
+        × (take (min (length (now c)) (length (now work))) (now work)
+        ≡ textPart suite key (now nonce) (now c) 0 (min (length (now c)) (length (now work)))) ⌝ }
+    ensures { λ r. ⌜ now (out .exit)
+        ≡ textOf suite key (now (nonce .entry)) (now (c .entry)) ++ drop (length (now (c .entry))) (now (out .entry)) ⌝ }
 {
     let m = c.len();
     let n = sealing::counts::lesser(m, work.len());
@@ -42,8 +43,9 @@ fn open_with(
     work: &mut [u8],
     out: &mut [u8],
 ) -> Answer
-    requires { ⌜ Passable suite (now nonce) (now header) × Passable suite (now nonce) (ciphertext (now sealed)) × (16 ≤ length (now sealed)) × (length (now sealed) - 16 ≤ length (now out)) × (length (now work) % 16 ≡ 0) ⌝ }
-    ensures { λ r. ⌜ (r ≡ thenTag Done (agrees (suite .cipher) (suite .steps) key (now (nonce .entry)) (now (header .entry)) (now (sealed .entry)))) × (now (out .exit) ≡ written (thenTag Done (agrees (suite .cipher) (suite .steps) key (now (nonce .entry)) (now (header .entry)) (now (sealed .entry)))) (opened (suite .cipher) (suite .steps) key (now (nonce .entry)) (now (header .entry)) (now (sealed .entry))) (now (out .entry))) ⌝ }
+    requires { ⌜ Tested suite (now nonce) (now header) (now sealed) (now out)
+        × (length (now work) % 16 ≡ 0) ⌝ }
+    ensures { λ r. ⌜ Compared suite key (now (nonce .entry)) (now (header .entry)) (now (sealed .entry)) (now (out .entry)) r (now (out .exit)) ⌝ }
 {
     let m = sealed.len() - 16;
     let tag = passes::tag_of(suite, key, nonce, header, &sealed[..m], work);
@@ -63,8 +65,8 @@ fn open_tested(
     sealed: &[u8],
     out: &mut [u8],
 ) -> Answer
-    requires { ⌜ Passable suite (now nonce) (now header) × Passable suite (now nonce) (ciphertext (now sealed)) × (16 ≤ length (now sealed)) × (length (now sealed) - 16 ≤ length (now out)) ⌝ }
-    ensures { λ r. ⌜ (r ≡ thenTag Done (agrees (suite .cipher) (suite .steps) key (now (nonce .entry)) (now (header .entry)) (now (sealed .entry)))) × (now (out .exit) ≡ written (thenTag Done (agrees (suite .cipher) (suite .steps) key (now (nonce .entry)) (now (header .entry)) (now (sealed .entry)))) (opened (suite .cipher) (suite .steps) key (now (nonce .entry)) (now (header .entry)) (now (sealed .entry))) (now (out .entry))) ⌝ }
+    requires { ⌜ Tested suite (now nonce) (now header) (now sealed) (now out) ⌝ }
+    ensures { λ r. ⌜ Compared suite key (now (nonce .entry)) (now (header .entry)) (now (sealed .entry)) (now (out .entry)) r (now (out .exit)) ⌝ }
 {
     let mut work = [0u8; 8208];
     open_with(suite, key, nonce, header, sealed, &mut work, out)
@@ -89,7 +91,10 @@ pub fn open(
     sealed: &[u8],
     out: &mut [u8],
 ) -> OpenAnswer
-    ensures { λ r. ⌜ (r ≡ openAnswer (suite .cipher) (suite .steps) (now (key .entry)) (now (nonce .entry)) (now (header .entry)) (now (sealed .entry)) (now (out .entry))) × (now (out .exit) ≡ openBuffer (suite .cipher) (suite .steps) (now (key .entry)) (now (nonce .entry)) (now (header .entry)) (now (sealed .entry)) (now (out .entry))) ⌝ }
+    ensures { λ r. ⌜ (r ≡ openAnswer (suite .cipher) (suite .steps)
+        (now (key .entry)) (now (nonce .entry)) (now (header .entry)) (now (sealed .entry)) (now (out .entry)))
+        × (now (out .exit) ≡ openBuffer (suite .cipher) (suite .steps)
+        (now (key .entry)) (now (nonce .entry)) (now (header .entry)) (now (sealed .entry)) (now (out .entry))) ⌝ }
 {
     let s = sealed.len();
     let tested = limits::open_tests(suite, key.len(), nonce.len(), header.len(), s, out.len());

@@ -8,21 +8,21 @@ use native.Mathlib.Decide.{ℕ-discrete}
 use native.Mathlib.Nat.{le-of-eq}
 use native.Mathlib.Omega.{arith}
 use lib.ListN.{length, take, drop, replicate, length-drop, drop-of-length-le, length-replicate}
-use lib.Seq.{take-all, take-length, drop-drop, length-take-le}
+use lib.Seq.{take-all, take-length, length-take-le}
 use Rattle.calls.specs.Calls.{filled, sumOf, checksum}
 use Rattle.calls.specs.Pieces.{piece, through}
 use Rattle.calls.specs.Tweak.{blocksOf, inner}
 use Rattle.calls.proofs.ByBlocks.{inner-long, length-piece, length-through-part}
-use Rattle.calls.proofs.Strung.{block-of-strung, block-short}
+use Rattle.calls.proofs.Strung.{block-short}
 use Rattle.suites.specs.declared.suite.Suite.{Suite}
 use Rattle.blockwise.specs.Blocks.{block, strung}
-use Rattle.blockwise.proofs.Each.{block-long}
+use Rattle.blockwise.proofs.Each.{block-long, block-later, block-taken, block-of-strung}
 use Rattle.sums.specs.Sums.{sumFrom}
 use Rattle.text_blocks.specs.Text.{Part}
 use Rattle.text_blocks.specs.Under.{enciphers, deciphers}
-use Rattle.text_blocks.proofs.Chunks.{enciphers-blockwise, deciphers-blockwise, block-taken}
+use Rattle.text_blocks.proofs.Chunks.{enciphers-blockwise, deciphers-blockwise}
 use Rattle.sums.proofs.Sums.{sum-ext, sum-add, sum-of}
-use Rattle.sealing.specs.Passes.{textSum}
+use Rattle.sealing.specs.Passes.{textOf, textPart, textSum}
 
 -- the part of c that was copied over all of w
 pub copied-is : (at : ℕ) (c w : List ℕ) → at + length w ≤ length c
@@ -34,15 +34,9 @@ copied-is at c w h =
     ∙ ap (λ (r : List ℕ). take (length w) (drop at c) ++ r) (drop-of-length-le w {i = length (take (length w) (drop at c))} (le-of-eq (sym long)))
     ∙ append-nil (take (length w) (drop at c))
 
--- block i of what follows the first k blocks
-pub later : (k i : ℕ) (c : List ℕ) → block (drop (16 * k) c) i ≡ block c (k + i)
-later k i c =
-    let at : 16 * k + 16 * i ≡ 16 * (k + i) = omega arith in
-    ap (take 16) (drop-drop (16 * i) (16 * k) c ∙ ap (λ (j : ℕ). drop j c) at)
-
 -- a part's blocks are the whole's
 part-block : (c : List ℕ) (first n : ℕ) → Part (length c) first n → (i : ℕ) → i < blocksOf n → block (take n (drop (16 * first) c)) i ≡ block c (first + i)
-part-block c first n p i h = by (p .whole) ∙ later first i c
+part-block c first n p i h = by (p .whole) ∙ block-later first i c
   where
     rest : List ℕ
     rest = drop (16 * first) c
@@ -56,7 +50,7 @@ part-block c first n p i h = by (p .whole) ∙ later first i c
 module _ (s : Suite) (key nonce : List ℕ) (short : length nonce ≤ 15) (c : List ℕ) (first n : ℕ) (p : Part (length c) first n) where
   -- the text of a part
   unfoldable pub text : List ℕ
-  text = through (deciphers s key) (enciphers s key) nonce (length c) first (take n (drop (16 * first) c))
+  text = textPart s key nonce c first n
 
   whole-block : (i : ℕ) → i < blocksOf n → inner (length c) (first + i) ≡ true → length (block (take n (drop (16 * first) c)) i) ≡ 16
   whole-block i h t = ap length (part-block c first n p i h) ∙ inner-long c (first + i) t
@@ -67,8 +61,8 @@ module _ (s : Suite) (key nonce : List ℕ) (short : length nonce ≤ 15) (c : L
   pub text-long : length text ≡ n
   unfolding text
   text-long =
-      length-through-part (deciphers s key) (enciphers s key) (deciphers-blockwise s key) (enciphers-blockwise s key) nonce short (length c) first (take n (drop (16 * first) c))
-      (λ i h. whole-block i (rw part-long at h))
+      length-through-part (deciphers s key) (enciphers s key) (deciphers-blockwise s key) (enciphers-blockwise s key) nonce short
+      (length c) first (take n (drop (16 * first) c)) (λ i h. whole-block i (rw part-long at h))
       ∙ part-long
 
   text-block : (i : ℕ) → i < blocksOf n → block text i ≡ piece (deciphers s key) (enciphers s key) nonce (length c) (first + i) (block c (first + i))
@@ -85,7 +79,9 @@ module _ (s : Suite) (key nonce : List ℕ) (short : length nonce ≤ 15) (c : L
       g j = piece (deciphers s key) (enciphers s key) nonce (length c) (first + j) (block P j)
 
       long : (j : ℕ) → j < blocksOf n → length (g j) ≡ length (block P j)
-      long j l = length-piece (deciphers s key) (enciphers s key) (deciphers-blockwise s key) (enciphers-blockwise s key) nonce short (length c) (first + j) (block P j) (whole-block j l) (block-short P j)
+      long j l =
+          length-piece (deciphers s key) (enciphers s key) (deciphers-blockwise s key) (enciphers-blockwise s key) nonce short
+          (length c) (first + j) (block P j) (whole-block j l) (block-short P j)
 
   -- the blocks of a part's text added to the sum of those before them
   pub window-sum : sumFrom (textSum s key nonce c first) (blocksOf (length text)) (λ i. filled 0x00 (block text i)) ≡ textSum s key nonce c (first + blocksOf n)
@@ -99,7 +95,7 @@ module _ (s : Suite) (key nonce : List ℕ) (short : length nonce ≤ 15) (c : L
       ∙ sum-of (first + blocksOf n) G
 
 text-whole : (s : Suite) (key nonce : List ℕ) (short : length nonce ≤ 15) (c : List ℕ) (p : Part (length c) 0 (length c))
-    → text s key nonce short c 0 (length c) p ≡ through (deciphers s key) (enciphers s key) nonce (length c) 0 c
+    → text s key nonce short c 0 (length c) p ≡ textOf s key nonce c
 unfolding text
 text-whole s key nonce short c p = ap (through (deciphers s key) (enciphers s key) nonce (length c) 0) (take-length c)
 
@@ -122,7 +118,7 @@ module _ (s : Suite) (key nonce c : List ℕ) where
   unfolding textSum sumOf
   sum-none = refl
 
-  pub sum-all : length nonce ≤ 15 → length c ≤ 2 ^ 24 → textSum s key nonce c (blocksOf (length c)) ≡ checksum (through (deciphers s key) (enciphers s key) nonce (length c) 0 c)
+  pub sum-all : length nonce ≤ 15 → length c ≤ 2 ^ 24 → textSum s key nonce c (blocksOf (length c)) ≡ checksum (textOf s key nonce c)
   unfolding checksum
   sum-all short small =
       let m = length c in
@@ -132,4 +128,4 @@ module _ (s : Suite) (key nonce c : List ℕ) where
       sym (ap (textSum s key nonce c) none)
       ∙ sym (window-sum s key nonce short c 0 m p)
       ∙ (λ j. sumFrom (sym sum-none j) (blocksOf (length (whole j))) (λ i. filled 0x00 (block (whole j) i)))
-      ∙ sum-of (blocksOf (length (through (deciphers s key) (enciphers s key) nonce m 0 c))) (λ i. filled 0x00 (block (through (deciphers s key) (enciphers s key) nonce m 0 c) i))
+      ∙ sum-of (blocksOf (length (textOf s key nonce c))) (λ i. filled 0x00 (block (textOf s key nonce c) i))

@@ -2,20 +2,19 @@
 use suites::suite::Suite;
 use tweak::TextBlock;
 ghost use mathlib.Core.Path.{_≡_};
-ghost use mathlib.Core.List.{_++_};
-ghost use Prim.Native.Nat.{_+_, _*_, _%_, _≤_, min};
-ghost use lib.ListN.{length, take, drop};
-ghost use Rattle.calls.specs.Pieces.{through};
+ghost use Prim.Native.Nat.{_+_, _*_, _%_, _≤_};
+ghost use lib.ListN.{length};
 ghost use Rattle.calls.specs.Sealing.{openingTag};
 ghost use Rattle.calls.specs.Tweak.{blocksOf};
 ghost use Rattle.text_blocks.specs.Text.{Part};
 ghost use Rattle.text_blocks.specs.Under.{enciphers, deciphers};
-ghost use Rattle.sealing.specs.Passes.{Passable, textSum};
+ghost use Rattle.sealing.specs.Passes.{Passable, textPart, textIn, textSum};
 
 // The text of a part of the ciphertext c, as long as `work` and from block `first` on, in `work`.
 pub fn window(suite: Suite, key: [u8; 16], nonce: &[u8], c: &[u8], first: usize, work: &mut [u8])
-    requires { ⌜ Passable suite (now nonce) (now c) × Part (length (now c)) first (length (now work)) ⌝ }
-    ensures { λ r. ⌜ now (work .exit) ≡ through (deciphers suite key) (enciphers suite key) (now (nonce .entry)) (length (now (c .entry))) first (take (length (now (work .entry))) (drop (16 * first) (now (c .entry)))) ⌝ }
+    requires { ⌜ Passable suite (now nonce) (now c)
+        × Part (length (now c)) first (length (now work)) ⌝ }
+    ensures { λ r. ⌜ now (work .exit) ≡ textPart suite key (now (nonce .entry)) (now (c .entry)) first (length (now (work .entry))) ⌝ }
 {
     let m = c.len();
     let at = 16 * first;
@@ -34,8 +33,11 @@ fn add_window(
     sum: [u8; 16],
     work: &mut [u8],
 ) -> [u8; 16]
-    requires { ⌜ Passable suite (now nonce) (now c) × Part (length (now c)) first (length (now work)) × (sum ≡ textSum suite key (now nonce) (now c) first) ⌝ }
-    ensures { λ r. ⌜ (r ≡ textSum suite key (now (nonce .entry)) (now (c .entry)) (first + blocksOf (length (now (work .entry))))) × (now (work .exit) ≡ through (deciphers suite key) (enciphers suite key) (now (nonce .entry)) (length (now (c .entry))) first (take (length (now (work .entry))) (drop (16 * first) (now (c .entry))))) ⌝ }
+    requires { ⌜ Passable suite (now nonce) (now c)
+        × Part (length (now c)) first (length (now work))
+        × (sum ≡ textSum suite key (now nonce) (now c) first) ⌝ }
+    ensures { λ r. ⌜ (r ≡ textSum suite key (now (nonce .entry)) (now (c .entry)) (first + blocksOf (length (now (work .entry)))))
+        × (now (work .exit) ≡ textPart suite key (now (nonce .entry)) (now (c .entry)) first (length (now (work .entry)))) ⌝ }
 {
     window(suite, key, nonce, c, first, work);
     sums::add_all(sum, work)
@@ -51,7 +53,10 @@ fn add_some(
     n: usize,
     sum: [u8; 16],
 ) -> [u8; 16]
-    requires { ⌜ Passable suite (now nonce) (now c) × Part (length (now c)) first n × (n ≤ 1024) × (sum ≡ textSum suite key (now nonce) (now c) first) ⌝ }
+    requires { ⌜ Passable suite (now nonce) (now c)
+        × Part (length (now c)) first n
+        × (n ≤ 1024)
+        × (sum ≡ textSum suite key (now nonce) (now c) first) ⌝ }
     ensures { λ r. ⌜ r ≡ textSum suite key (now (nonce .entry)) (now (c .entry)) (first + blocksOf n) ⌝ }
 {
     let mut work = [0u8; 1024];
@@ -67,7 +72,9 @@ fn add_rest(
     first: usize,
     sum: [u8; 16],
 ) -> [u8; 16]
-    requires { ⌜ Passable suite (now nonce) (now c) × (first ≤ blocksOf (length (now c))) × (sum ≡ textSum suite key (now nonce) (now c) first) ⌝ }
+    requires { ⌜ Passable suite (now nonce) (now c)
+        × (first ≤ blocksOf (length (now c)))
+        × (sum ≡ textSum suite key (now nonce) (now c) first) ⌝ }
     ensures { λ r. ⌜ r ≡ textSum suite key (now (nonce .entry)) (now (c .entry)) (blocksOf (length (now (c .entry)))) ⌝ }
 {
     let m = c.len();
@@ -92,8 +99,11 @@ pub fn tag_of(
     c: &[u8],
     work: &mut [u8],
 ) -> [u8; 16]
-    requires { ⌜ Passable suite (now nonce) (now header) × Passable suite (now nonce) (now c) × (length (now work) % 16 ≡ 0) ⌝ }
-    ensures { λ r. ⌜ (r ≡ openingTag (enciphers suite key) (deciphers suite key) (now (nonce .entry)) (now (header .entry)) (now (c .entry))) × (now (work .exit) ≡ through (deciphers suite key) (enciphers suite key) (now (nonce .entry)) (length (now (c .entry))) 0 (take (min (length (now (c .entry))) (length (now (work .entry)))) (now (c .entry))) ++ drop (min (length (now (c .entry))) (length (now (work .entry)))) (now (work .entry))) ⌝ }
+    requires { ⌜ Passable suite (now nonce) (now header)
+        × Passable suite (now nonce) (now c)
+        × (length (now work) % 16 ≡ 0) ⌝ }
+    ensures { λ r. ⌜ (r ≡ openingTag (enciphers suite key) (deciphers suite key) (now (nonce .entry)) (now (header .entry)) (now (c .entry)))
+        × (now (work .exit) ≡ textIn suite key (now (nonce .entry)) (now (c .entry)) (now (work .entry))) ⌝ }
 {
     let m = c.len();
     let n = sealing::counts::lesser(m, work.len());

@@ -49,15 +49,19 @@ module _ (s : Suite) (key nonce h t : List ℕ) (short : length nonce ≤ 15) (m
   length-sealed = length-sealing (enciphers s key) (deciphers s key) (enciphers-blockwise s key) nonce short h t ∙ ap (λ (n : ℕ). n + 16) long
 
   pub sealed-written : (out : List ℕ)
-      → paste (through (enciphers s key) (enciphers s key) nonce m 0 t ++ drop m out) m (tagFrom (enciphers s key) nonce m (checksum t) (headerSum (enciphers s key) nonce h)) 16
+      → paste (through (enciphers s key) (enciphers s key) nonce m 0 t ++ drop m out) m
+      (tagFrom (enciphers s key) nonce m (checksum t) (headerSum (enciphers s key) nonce h)) 16
       ≡ sealed (s .cipher) (s .steps) key nonce h t ++ drop (m + 16) out
   unfolding sealed
   sealed-written out =
       let e = enciphers s key in
       let k = enciphers-blockwise s key in
       let sum = headerSum e nonce h in
-      let long-x : length (through e e nonce m 0 t) ≡ m = ap (λ (n : ℕ). length (through e e nonce n 0 t)) (sym long) ∙ length-through e e k k nonce short t ∙ long in
-      tagged m out (through e e nonce m 0 t) (tagFrom e nonce m (checksum t) sum) long-x (length-tagFrom e k nonce short m (checksum t) sum (length-checksum t) (length-headerSum e k nonce short h))
+      let x = through e e nonce m 0 t in
+      let g = tagFrom e nonce m (checksum t) sum in
+      let long-x : length x ≡ m = ap (λ (n : ℕ). length (through e e nonce n 0 t)) (sym long) ∙ length-through e e k k nonce short t ∙ long in
+      let long-g : length g ≡ 16 = length-tagFrom e k nonce short m (checksum t) sum (length-checksum t) (length-headerSum e k nonce short h) in
+      tagged m out x g long-x long-g
       ∙ ap (λ (n : ℕ). (through e e nonce n 0 t ++ tagFrom e nonce n (checksum t) sum) ++ drop (m + 16) out) (sym long)
       ∙ ap (λ (x : List ℕ). x ++ drop (m + 16) out) (sym (sealing-is e (deciphers s key) k nonce short h t))
 
@@ -99,5 +103,6 @@ module _ (s : Suite) (key nonce h : List ℕ) (m : ℕ) (out : List ℕ) where
           ap (λ (n : ℕ). Sealed (m + 16) (blocksOf (length h) + blocksOf n + 1)) (sym long)
               ∙ ap (Sealed (m + 16)) (sym (length-calls nonce h t))
               ∙ sym (ap (λ (a : Answer). sealReport a (m + 16) (length (calls nonce h t))) e),
-          ap (λ (n : ℕ). all ++ drop n out) (sym (length-sealed s key nonce h t (passed .header .usable .short) m long)) ∙ sym (ap (λ (a : Answer). written a all out) e),
+          ap (λ (n : ℕ). all ++ drop n out) (sym (length-sealed s key nonce h t (passed .header .usable .short) m long))
+              ∙ sym (ap (λ (a : Answer). written a all out) e),
         )

@@ -18,8 +18,12 @@ pub enum SealAnswer {
 
 // The sealed bytes of the first m bytes of the output, in their place.
 fn seal_there(suite: Suite, key: [u8; 16], nonce: &[u8], header: &[u8], m: usize, out: &mut [u8])
-    requires { ⌜ Passable suite (now nonce) (now header) × (m ≤ 2 ^ 24) × (m + 16 ≤ length (now out)) ⌝ }
-    ensures { λ r. ⌜ now (out .exit) ≡ sealed (suite .cipher) (suite .steps) key (now (nonce .entry)) (now (header .entry)) (take m (now (out .entry))) ++ drop (m + 16) (now (out .entry)) ⌝ }
+    requires { ⌜ Passable suite (now nonce) (now header)
+        × (m ≤ 2 ^ 24)
+        × (m + 16 ≤ length (now out)) ⌝ }
+    ensures { λ r. ⌜ now (out .exit)
+        ≡ sealed (suite .cipher) (suite .steps) key (now (nonce .entry)) (now (header .entry)) (take m (now (out .entry)))
+        ++ drop (m + 16) (now (out .entry)) ⌝ }
 {
     let checksum = sums::add_all([0u8; 16], &out[..m]);
     text_blocks::through(true, suite, key, nonce, m, TextBlock(0), &mut out[..m]);
@@ -37,8 +41,12 @@ fn write_sealed(
     text: &[u8],
     out: &mut [u8],
 )
-    requires { ⌜ Passable suite (now nonce) (now header) × Passable suite (now nonce) (now text) × (length (now text) + 16 ≤ length (now out)) ⌝ }
-    ensures { λ r. ⌜ now (out .exit) ≡ sealed (suite .cipher) (suite .steps) key (now (nonce .entry)) (now (header .entry)) (now (text .entry)) ++ drop (length (now (text .entry)) + 16) (now (out .entry)) ⌝ }
+    requires { ⌜ Passable suite (now nonce) (now header)
+        × Passable suite (now nonce) (now text)
+        × (length (now text) + 16 ≤ length (now out)) ⌝ }
+    ensures { λ r. ⌜ now (out .exit)
+        ≡ sealed (suite .cipher) (suite .steps) key (now (nonce .entry)) (now (header .entry)) (now (text .entry))
+        ++ drop (length (now (text .entry)) + 16) (now (out .entry)) ⌝ }
 {
     sums::copy(text, out);
     seal_there(suite, key, nonce, header, text.len(), out);
@@ -53,7 +61,10 @@ pub fn seal(
     text: &[u8],
     out: &mut [u8],
 ) -> SealAnswer
-    ensures { λ r. ⌜ (r ≡ sealAnswer (suite .cipher) (suite .steps) (now (key .entry)) (now (nonce .entry)) (now (header .entry)) (now (text .entry)) (now (out .entry))) × (now (out .exit) ≡ sealBuffer (suite .cipher) (suite .steps) (now (key .entry)) (now (nonce .entry)) (now (header .entry)) (now (text .entry)) (now (out .entry))) ⌝ }
+    ensures { λ r. ⌜ (r ≡ sealAnswer (suite .cipher) (suite .steps)
+        (now (key .entry)) (now (nonce .entry)) (now (header .entry)) (now (text .entry)) (now (out .entry)))
+        × (now (out .exit) ≡ sealBuffer (suite .cipher) (suite .steps)
+        (now (key .entry)) (now (nonce .entry)) (now (header .entry)) (now (text .entry)) (now (out .entry))) ⌝ }
 {
     let a = header.len();
     let m = text.len();
@@ -77,7 +88,10 @@ pub fn seal_in_place(
     m: usize,
     out: &mut [u8],
 ) -> SealAnswer
-    ensures { λ r. ⌜ (r ≡ inPlaceAnswer (suite .cipher) (suite .steps) (now (key .entry)) (now (nonce .entry)) (now (header .entry)) m (now (out .entry))) × (now (out .exit) ≡ inPlaceBuffer (suite .cipher) (suite .steps) (now (key .entry)) (now (nonce .entry)) (now (header .entry)) m (now (out .entry))) ⌝ }
+    ensures { λ r. ⌜ (r ≡ inPlaceAnswer (suite .cipher) (suite .steps)
+        (now (key .entry)) (now (nonce .entry)) (now (header .entry)) m (now (out .entry)))
+        × (now (out .exit) ≡ inPlaceBuffer (suite .cipher) (suite .steps)
+        (now (key .entry)) (now (nonce .entry)) (now (header .entry)) m (now (out .entry))) ⌝ }
 {
     let a = header.len();
     let tested = limits::seal_tests(suite, key.len(), nonce.len(), a, m, out.len());

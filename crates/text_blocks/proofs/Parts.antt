@@ -15,7 +15,7 @@ use Rattle.calls.specs.Pieces.{piece, through}
 use Rattle.calls.specs.Tweak.{textTweak, specialTweak, blocksOf, inner, lastTextMark}
 use Rattle.blockwise.specs.Blocks.{block, strung}
 use Rattle.calls.proofs.Strung.{strung-ext}
-use Rattle.text_blocks.proofs.Chunks.{block-taken}
+use Rattle.blockwise.proofs.Each.{block-taken}
 
 -- what does not reach the text's end is whole blocks
 pub before-whole : (m end n : ℕ) → (end ≡ m) ⊎ (n % 16 ≡ 0) → end < m → n % 16 ≡ 0
@@ -31,17 +31,26 @@ front-blocks g s k h =
     let l : length t ≡ 16 * k = length-take-le (16 * k) s h in
     let n : length t / 16 ≡ k = omega arith in
     ap (λ (j : ℕ). strung j (λ i. g i (block t i)) ++ drop (16 * j) t) n
-    ∙ (λ j. strung-ext k (λ i. g i (block t i)) (λ i. g i (block s i)) (λ i b. ap (g i) (block-taken k s h i b)) j ++ drop-of-length-le t {i = 16 * k} (le-of-eq l) j)
+    ∙ (λ j.
+    strung-ext k (λ i. g i (block t i)) (λ i. g i (block s i)) (λ i b. ap (g i) (block-taken k s h i b)) j
+    ++ drop-of-length-le t {i = 16 * k} (le-of-eq l) j)
     ∙ append-nil (strung k (λ i. g i (block s i)))
 
 module _ (f e : List ℕ → List ℕ → List ℕ) (nonce : List ℕ) (m first : ℕ) (s : List ℕ) where
+  -- block i of s, as one that is not last and as the last
   under : ℕ → List ℕ
   under i = f (textTweak nonce (first + i)) (block s i)
 
-  piece-inner : (i : ℕ) → 16 * (first + i) + 16 < m → under i ≡ piece f e nonce m (first + i) (block s i)
+  abbrev lastly : List ℕ → ℕ → List ℕ
+  lastly b n = added b (e (specialTweak nonce (lastTextMark m)) (lengthBlock n))
+
+  abbrev pieces : ℕ → List ℕ
+  pieces i = piece f e nonce m (first + i) (block s i)
+
+  piece-inner : (i : ℕ) → 16 * (first + i) + 16 < m → under i ≡ pieces i
   unfolding under piece
   piece-inner i h =
-      ap (λ (t : Bool). cond t (f (textTweak nonce (first + i)) (block s i)) (added (block s i) (e (specialTweak nonce (lastTextMark m)) (lengthBlock (length (block s i))))))
+      ap (λ (t : Bool). cond t (f (textTweak nonce (first + i)) (block s i)) (lastly (block s i) (length (block s i))))
       (sym (lt-ltb (suc (first + i)) (blocksOf m) (omega arith)))
 
   pub through-before : 16 * first + length s < m → length s % 16 ≡ 0
@@ -49,20 +58,22 @@ module _ (f e : List ℕ → List ℕ → List ℕ) (nonce : List ℕ) (m first 
   unfolding through under
   through-before h w =
       let n : length s / 16 ≡ blocksOf (length s) = omega arith in
-      (λ j. strung-ext (length s / 16) under (λ i. piece f e nonce m (first + i) (block s i)) (λ i b. piece-inner i (omega arith)) j ++ drop-of-length-le s {i = 16 * (length s / 16)} (omega arith) j)
-      ∙ append-nil (strung (length s / 16) (λ i. piece f e nonce m (first + i) (block s i)))
-      ∙ ap (λ (k : ℕ). strung k (λ i. piece f e nonce m (first + i) (block s i))) n
+      (λ j.
+      strung-ext (length s / 16) under pieces (λ i b. piece-inner i (omega arith)) j
+      ++ drop-of-length-le s {i = 16 * (length s / 16)} (omega arith) j)
+      ∙ append-nil (strung (length s / 16) pieces)
+      ∙ ap (λ (k : ℕ). strung k pieces) n
 
   pub through-none : length s ≡ 0 → s ≡ through f e nonce m first s
   unfolding through strung
   through-none l =
-      sym (take-all 0 s (le-of-eq l)) ∙ ap (λ (n : ℕ). strung n (λ i. piece f e nonce m (first + i) (block s i))) none
+      sym (take-all 0 s (le-of-eq l)) ∙ ap (λ (n : ℕ). strung n pieces) none
     where
       none : 0 ≡ blocksOf (length s)
       none = omega arith
 
   pub through-last : (k : ℕ) → k ≡ (length s - 1) / 16 → 0 < length s → 16 * first + length s ≡ m
-      → strung k (λ i. f (textTweak nonce (first + i)) (block s i)) ++ added (drop (16 * k) s) (e (specialTweak nonce (lastTextMark m)) (lengthBlock (length s - 16 * k)))
+      → strung k (λ i. f (textTweak nonce (first + i)) (block s i)) ++ lastly (drop (16 * k) s) (length s - 16 * k)
       ≡ through f e nonce m first s
   unfolding through strung under piece
   through-last k ek some end =
@@ -70,6 +81,6 @@ module _ (f e : List ℕ → List ℕ → List ℕ) (nonce : List ℕ) (m first 
       let b : drop (16 * k) s ≡ block s k = sym (take-all 16 (drop (16 * k) s) (rw length-drop (omega arith))) in
       let r : length s - 16 * k ≡ length (block s k) = sym (length-drop (16 * k) s) ∙ ap length b in
       let last : false ≡ inner m (first + k) = sym (le-ltb (suc (first + k)) (blocksOf m) (omega arith)) in
-      (λ j. strung-ext k under (λ i. piece f e nonce m (first + i) (block s i)) (λ i h. piece-inner i (omega arith)) j ++ added (b j) (e (specialTweak nonce (lastTextMark m)) (lengthBlock (r j))))
-      ∙ ap (λ (t : Bool). strung k (λ i. piece f e nonce m (first + i) (block s i)) ++ cond t (f (textTweak nonce (first + k)) (block s k)) (added (block s k) (e (specialTweak nonce (lastTextMark m)) (lengthBlock (length (block s k)))))) last
-      ∙ ap (λ (j : ℕ). strung j (λ i. piece f e nonce m (first + i) (block s i))) n
+      (λ j. strung-ext k under pieces (λ i h. piece-inner i (omega arith)) j ++ lastly (b j) (r j))
+      ∙ ap (λ (t : Bool). strung k pieces ++ cond t (f (textTweak nonce (first + k)) (block s k)) (lastly (block s k) (length (block s k)))) last
+      ∙ ap (λ (j : ℕ). strung j pieces) n

@@ -1,7 +1,10 @@
--- The ciphers under a suite that is listed.
+-- The ciphers under a suite that is listed, and blocks under the tweaks of their numbers.
 use mathlib.Core.Bool.{Bool, cond}
-use mathlib.Core.List.{List}
-use Prim.Native.Nat.{ℕ}
+use mathlib.Core.List.{List, _++_}
+use Prim.Native.Nat.{ℕ, _+_, _*_}
+use lib.ListN.{drop}
+use Rattle.blockwise.specs.Blocks.{strung, block}
+use Rattle.calls.specs.Tweak.{textTweak}
 use Rattle.suites.specs.declared.suite.Suite.{Suite}
 use Rattle.suites.specs.Suite.{cipherOf}
 use Rattle.rounds.specs.Cipher.{encipher, decipher}
@@ -15,3 +18,11 @@ deciphers s key = decipher (cipherOf (s .cipher)) (s .steps) key
 -- the one or the other
 abbrev pub either : Bool → Suite → List ℕ → List ℕ → List ℕ → List ℕ
 either ahead s key = cond ahead (enciphers s key) (deciphers s key)
+
+-- block b of a text, by its number
+abbrev pub numbered : Bool → Suite → List ℕ → List ℕ → ℕ → List ℕ → List ℕ
+numbered ahead s key nonce number b = either ahead s key (textTweak nonce number) b
+
+-- the first k blocks of x, each by its number, from `first` on; the bytes behind them stay
+abbrev pub firstBlocks : Bool → Suite → List ℕ → List ℕ → ℕ → ℕ → List ℕ → List ℕ
+firstBlocks ahead s key nonce first k x = strung k (λ i. numbered ahead s key nonce (first + i) (block x i)) ++ drop (16 * k) x

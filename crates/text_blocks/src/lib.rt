@@ -3,15 +3,13 @@ use suites::suite::Suite;
 use tweak::TextBlock;
 ghost use mathlib.Core.Bool.{true, cond};
 ghost use mathlib.Core.Path.{_≡_};
-ghost use mathlib.Core.List.{_++_};
 ghost use Prim.Native.Nat.{_+_, _*_, _/_, _^_, _<_, _≤_, min};
-ghost use lib.ListN.{length, drop};
+ghost use lib.ListN.{length};
 ghost use Rattle.calls.specs.Calls.{lengthBlock};
 ghost use Rattle.calls.specs.Pieces.{through};
-ghost use Rattle.calls.specs.Tweak.{textTweak, specialTweak, full, lastTextMark};
+ghost use Rattle.calls.specs.Tweak.{specialTweak, full, lastTextMark};
 ghost use Rattle.suites.specs.Suite.{listed};
-ghost use Rattle.blockwise.specs.Blocks.{strung, block};
-ghost use Rattle.text_blocks.specs.Under.{enciphers, either};
+ghost use Rattle.text_blocks.specs.Under.{enciphers, either, firstBlocks};
 ghost use Rattle.text_blocks.specs.Text.{Usable, Part};
 
 // Whether the last block of n bytes is full.
@@ -57,8 +55,11 @@ fn chunk(
     k: usize,
     s: &mut [u8],
 )
-    requires { ⌜ Usable suite (now nonce) × (k ≤ 64) × (16 * k ≤ length (now s)) × (first .0 + k < 2 ^ 64) ⌝ }
-    ensures { λ r. ⌜ now (s .exit) ≡ strung k (λ i. either ahead suite key (textTweak (now (nonce .entry)) (first .0 + i)) (block (now (s .entry)) i)) ++ drop (16 * k) (now (s .entry)) ⌝ }
+    requires { ⌜ Usable suite (now nonce)
+        × (k ≤ 64)
+        × (16 * k ≤ length (now s))
+        × (first .0 + k < 2 ^ 64) ⌝ }
+    ensures { λ r. ⌜ now (s .exit) ≡ firstBlocks ahead suite key (now (nonce .entry)) (first .0) k (now (s .entry)) ⌝ }
 {
     let mut tweaks = [0u8; 1024];
     tweak::text_tweaks(nonce, first, k, &mut tweaks);
@@ -72,8 +73,10 @@ fn chunk(
 
 // The whole blocks of s likewise.
 fn blocks(ahead: bool, suite: Suite, key: [u8; 16], nonce: &[u8], first: TextBlock, s: &mut [u8])
-    requires { ⌜ Usable suite (now nonce) × (first .0 + length (now s) < 2 ^ 63) ⌝ }
-    ensures { λ r. ⌜ now (s .exit) ≡ strung (length (now (s .entry)) / 16) (λ i. either ahead suite key (textTweak (now (nonce .entry)) (first .0 + i)) (block (now (s .entry)) i)) ++ drop (16 * (length (now (s .entry)) / 16)) (now (s .entry)) ⌝ }
+    requires { ⌜ Usable suite (now nonce)
+        × (first .0 + length (now s) < 2 ^ 63) ⌝ }
+    ensures { λ r. ⌜ now (s .exit)
+        ≡ firstBlocks ahead suite key (now (nonce .entry)) (first .0) (length (now (s .entry)) / 16) (now (s .entry)) ⌝ }
 {
     let number = first.0;
     let n = s.len() / 16;
@@ -96,7 +99,8 @@ fn blocks(ahead: bool, suite: Suite, key: [u8; 16], nonce: &[u8], first: TextBlo
 
 // What is added to the last block of a text of m bytes, which has r.
 fn pad(suite: Suite, key: [u8; 16], nonce: &[u8], m: usize, r: usize) -> [u8; 16]
-    requires { ⌜ Usable suite (now nonce) × (r ≤ 16) ⌝ }
+    requires { ⌜ Usable suite (now nonce)
+        × (r ≤ 16) ⌝ }
     ensures { λ r'. ⌜ r' ≡ enciphers suite key (specialTweak (now (nonce .entry)) (lastTextMark m)) (lengthBlock r) ⌝ }
 {
     let mut b = [0u8; 16];
@@ -115,8 +119,10 @@ pub fn through(
     first: TextBlock,
     s: &mut [u8],
 )
-    requires { ⌜ Usable suite (now nonce) × Part m (first .0) (length (now s)) ⌝ }
-    ensures { λ r. ⌜ now (s .exit) ≡ through (either ahead suite key) (enciphers suite key) (now (nonce .entry)) m (first .0) (now (s .entry)) ⌝ }
+    requires { ⌜ Usable suite (now nonce)
+        × Part m (first .0) (length (now s)) ⌝ }
+    ensures { λ r. ⌜ now (s .exit)
+        ≡ through (either ahead suite key) (enciphers suite key) (now (nonce .entry)) m (first .0) (now (s .entry)) ⌝ }
 {
     let number = first.0;
     let n = s.len();

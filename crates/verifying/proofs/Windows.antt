@@ -13,6 +13,7 @@ use Rattle.suites.specs.declared.refusal.Answer.the-variants.{Done}
 use Rattle.suites.specs.declared.suite.Suite.{Suite}
 use Rattle.text_blocks.specs.Under.{enciphers, deciphers}
 use Rattle.text_blocks.proofs.Chunks.{enciphers-blockwise, deciphers-blockwise}
+use Rattle.sealing.specs.Passes.{textOf, textPart, textIn}
 use Rattle.opening.proofs.Opened.{through-split, window-long}
 use Rattle.verifying.specs.Within.{heldIn}
 
@@ -27,7 +28,7 @@ drop-least m w = by (ℕ-discrete (min m (length w)) m)
 module _ (s : Suite) (key nonce : List ℕ) (short : length nonce ≤ 15) (c : List ℕ) (small : length c ≤ 2 ^ 24) where
   -- all of the text
   all : List ℕ
-  all = through (deciphers s key) (enciphers s key) nonce (length c) 0 c
+  all = textOf s key nonce c
 
   all-long : length all ≡ length c
   unfolding all
@@ -35,13 +36,12 @@ module _ (s : Suite) (key nonce : List ℕ) (short : length nonce ≤ 15) (c : L
 
   -- the first window is the start of the text
   pub window-front : (w : ℕ) → w % 16 ≡ 0
-      → through (deciphers s key) (enciphers s key) nonce (length c) 0 (take (min (length c) w) c)
-      ≡ take w (through (deciphers s key) (enciphers s key) nonce (length c) 0 c)
+      → textPart s key nonce c 0 (min (length c) w) ≡ take w (textOf s key nonce c)
   unfolding all
   window-front w whole = by (ℕ-discrete (min (length c) w) (length c))
     where
       front : List ℕ
-      front = through (deciphers s key) (enciphers s key) nonce (length c) 0 (take (min (length c) w) c)
+      front = textPart s key nonce c 0 (min (length c) w)
 
       by : Dec (min (length c) w ≡ length c) → front ≡ take w all
       by (yes e) =
@@ -51,12 +51,11 @@ module _ (s : Suite) (key nonce : List ℕ) (short : length nonce ≤ 15) (c : L
           let n : 16 * (w / 16) ≡ min (length c) w = omega arith in
           let rest = through (deciphers s key) (enciphers s key) nonce (length c) (w / 16) (drop (16 * (w / 16)) c) in
           sym (take-at front rest w (window-long s key nonce short c small w whole ∙ omega arith))
-          ∙ ap (λ (k : ℕ). take w (through (deciphers s key) (enciphers s key) nonce (length c) 0 (take k c) ++ rest)) (sym n)
+          ∙ ap (λ (k : ℕ). take w (textPart s key nonce c 0 k ++ rest)) (sym n)
           ∙ ap (take w) (sym (through-split (deciphers s key) (enciphers s key) nonce (length c) c (w / 16) (omega arith)))
 
   pub window-held : (w : List ℕ) → length w % 16 ≡ 0
-      → through (deciphers s key) (enciphers s key) nonce (length c) 0 (take (min (length c) (length w)) c) ++ drop (min (length c) (length w)) w
-      ≡ heldIn Done (through (deciphers s key) (enciphers s key) nonce (length c) 0 c) w
+      → textIn s key nonce c w ≡ heldIn Done (textOf s key nonce c) w
   unfolding all
   window-held w whole = λ i. window-front (length w) whole i ++ (drop-least (length c) w ∙ ap (λ (n : ℕ). drop n w) (sym all-long)) i
 
@@ -74,10 +73,8 @@ zeros-behind (a ∷ x) k w (suc i) h = zeros-behind x k w i h
 -- the first bytes of the text, as the first window leaves them among zeros
 module _ (s : Suite) (key nonce : List ℕ) (short : length nonce ≤ 15) (c : List ℕ) (small : length c ≤ 2 ^ 24) (w : ℕ) (whole : w % 16 ≡ 0) where
   pub window-byte : (i : ℕ) → i < w
-      → getD (through (deciphers s key) (enciphers s key) nonce (length c) 0 (take (min (length c) w) c) ++ drop (min (length c) w) (replicate w 0)) i 0
-      ≡ getD (through (deciphers s key) (enciphers s key) nonce (length c) 0 c) i 0
+      → getD (textPart s key nonce c 0 (min (length c) w) ++ drop (min (length c) w) (replicate w 0)) i 0 ≡ getD (textOf s key nonce c) i 0
   window-byte i h =
-      let text = through (deciphers s key) (enciphers s key) nonce (length c) 0 in
-      zeros-behind (text (take (min (length c) w) c)) (min (length c) w) w i (omega arith)
+      zeros-behind (textPart s key nonce c 0 (min (length c) w)) (min (length c) w) w i (omega arith)
       ∙ ap (λ (l : List ℕ). getD l i 0) (window-front s key nonce short c small w whole)
-      ∙ getD-take w (text c) i 0 h
+      ∙ getD-take w (textOf s key nonce c) i 0 h

@@ -1,4 +1,4 @@
--- What `verify` answers: opening without an output.
+-- What opening without an output answers.
 use mathlib.Core.List.{List}
 use Prim.Native.Nat.{ℕ}
 use lib.ListN.{length, getD}

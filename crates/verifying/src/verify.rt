@@ -1,12 +1,11 @@
-// Opening without an output.
+// Opening without an output, with ciphertext and tag apart.
 use suites::refusal::Answer;
 use suites::refusal::Refusal;
 use suites::suite::Suite;
 ghost use mathlib.Core.Path.{_≡_};
 ghost use mathlib.Core.List.{_++_};
-ghost use Rattle.suites.specs.declared.refusal.Answer.the-variants.{Done};
 ghost use Rattle.sealing.specs.Passes.{Passable};
-ghost use Rattle.opening.specs.Open.{opened, agrees, thenTag};
+ghost use Rattle.opening.specs.Open.{opened, byTag};
 ghost use Rattle.verifying.specs.Verify.{verifyAnswer, verifyReport};
 
 // The first two bytes of the text, 0 for one that is not there; or the refusal.
@@ -15,7 +14,7 @@ pub enum VerifyAnswer {
     Refused(Refusal),
 }
 
-// The first two bytes of the text if the tag agrees; ciphertext and tag are apart.
+// The first two bytes of the text if the tag agrees.
 fn verify_tested(
     suite: Suite,
     key: [u8; 16],
@@ -24,8 +23,11 @@ fn verify_tested(
     c: &[u8],
     tag: [u8; 16],
 ) -> VerifyAnswer
-    requires { ⌜ Passable suite (now nonce) (now header) × Passable suite (now nonce) (now c) ⌝ }
-    ensures { λ r. ⌜ r ≡ verifyReport (thenTag Done (agrees (suite .cipher) (suite .steps) key (now (nonce .entry)) (now (header .entry)) (now (c .entry) ++ tag))) (opened (suite .cipher) (suite .steps) key (now (nonce .entry)) (now (header .entry)) (now (c .entry) ++ tag)) ⌝ }
+    requires { ⌜ Passable suite (now nonce) (now header)
+        × Passable suite (now nonce) (now c) ⌝ }
+    ensures { λ r. ⌜ r
+        ≡ verifyReport (byTag suite key (now (nonce .entry)) (now (header .entry)) (now (c .entry) ++ tag))
+        (opened (suite .cipher) (suite .steps) key (now (nonce .entry)) (now (header .entry)) (now (c .entry) ++ tag)) ⌝ }
 {
     let mut work = [0u8; 1024];
     let made = passes::tag_of(suite, key, nonce, header, c, &mut work);
@@ -36,22 +38,6 @@ fn verify_tested(
 }
 
 // Opens without an output: whether the tag agrees, and then the first two bytes of the text. Refusals: 1 to 6, 8.
-pub fn verify(suite: Suite, key: &[u8], nonce: &[u8], header: &[u8], sealed: &[u8]) -> VerifyAnswer
-    ensures { λ r. ⌜ r ≡ verifyAnswer (suite .cipher) (suite .steps) (now (key .entry)) (now (nonce .entry)) (now (header .entry)) (now (sealed .entry)) ⌝ }
-{
-    let tested = limits::verify_tests(suite, key.len(), nonce.len(), header.len(), sealed.len());
-    match tested {
-        Answer::Refused(why) => VerifyAnswer::Refused(why),
-        Answer::Done => {
-            let k = blockwise::block_at(key, 0);
-            let m = sealed.len() - 16;
-            let tag = blockwise::block_at(sealed, m);
-            verify_tested(suite, k, nonce, header, &sealed[..m], tag)
-        }
-    }
-}
-
-// The same, with ciphertext and tag apart.
 pub fn verify_apart(
     suite: Suite,
     key: &[u8],

@@ -8,7 +8,7 @@ ghost use Prim.Native.Nat.{_%_};
 ghost use lib.ListN.{length};
 ghost use Rattle.suites.specs.declared.refusal.Answer.the-variants.{Done};
 ghost use Rattle.sealing.specs.Passes.{Passable};
-ghost use Rattle.opening.specs.Open.{opened, agrees, thenTag};
+ghost use Rattle.opening.specs.Open.{opened, byTag};
 ghost use Rattle.verifying.specs.Verify.{verifyOutcome};
 ghost use Rattle.verifying.specs.Within.{heldIn, withinBuffer};
 
@@ -22,8 +22,12 @@ fn within_tested(
     tag: [u8; 16],
     work: &mut [u8],
 ) -> Answer
-    requires { ⌜ Passable suite (now nonce) (now header) × Passable suite (now nonce) (now c) × (length (now work) % 16 ≡ 0) ⌝ }
-    ensures { λ r. ⌜ (r ≡ thenTag Done (agrees (suite .cipher) (suite .steps) key (now (nonce .entry)) (now (header .entry)) (now (c .entry) ++ tag))) × (now (work .exit) ≡ heldIn Done (opened (suite .cipher) (suite .steps) key (now (nonce .entry)) (now (header .entry)) (now (c .entry) ++ tag)) (now (work .entry))) ⌝ }
+    requires { ⌜ Passable suite (now nonce) (now header)
+        × Passable suite (now nonce) (now c)
+        × (length (now work) % 16 ≡ 0) ⌝ }
+    ensures { λ r. ⌜ (r ≡ byTag suite key (now (nonce .entry)) (now (header .entry)) (now (c .entry) ++ tag))
+        × (now (work .exit)
+        ≡ heldIn Done (opened (suite .cipher) (suite .steps) key (now (nonce .entry)) (now (header .entry)) (now (c .entry) ++ tag)) (now (work .entry))) ⌝ }
 {
     let made = passes::tag_of(suite, key, nonce, header, c, work);
     if mode::tag::same(made, tag) {
@@ -44,7 +48,10 @@ pub fn open_within(
     work: &mut [u8],
 ) -> Answer
     requires { ⌜ length (now work) % 16 ≡ 0 ⌝ }
-    ensures { λ r. ⌜ (r ≡ verifyOutcome (suite .cipher) (suite .steps) (now (key .entry)) (now (nonce .entry)) (now (header .entry)) (now (c .entry) ++ tag)) × (now (work .exit) ≡ withinBuffer (suite .cipher) (suite .steps) (now (key .entry)) (now (nonce .entry)) (now (header .entry)) (now (c .entry) ++ tag) (now (work .entry))) ⌝ }
+    ensures { λ r. ⌜ (r ≡ verifyOutcome (suite .cipher) (suite .steps)
+        (now (key .entry)) (now (nonce .entry)) (now (header .entry)) (now (c .entry) ++ tag))
+        × (now (work .exit) ≡ withinBuffer (suite .cipher) (suite .steps)
+        (now (key .entry)) (now (nonce .entry)) (now (header .entry)) (now (c .entry) ++ tag) (now (work .entry))) ⌝ }
 {
     let tested = limits::apart_tests(suite, key.len(), nonce.len(), header.len(), c.len());
     match tested {

@@ -13,9 +13,9 @@ returns : tie.Need-returns
 unfolding sealTests
 returns c =
     let text = c .before in
-    let limit = text .before in
-    let output = limit .before in
-    let room = output .before in
+    let output = text .before in
+    let limit = output .before in
+    let room = limit .before in
     let a = room .before .args in
     c .input-tests .ensures
     ∙ ap (inputTests (a .suite .cipher) (a .suite .steps) (a .k) (a .n) (a .a))

@@ -11,7 +11,8 @@ use Rattle.passes.proofs.add_rest.Statement.{statement}
 use Rattle.passes.proofs.add_rest.Tie as tie
 
 abbrev Inv-loop : tie.InvT-loop
-Inv-loop suite key nonce c first m total all₀ done₀ all done = (done ≤ blocksOf (length c)) × (total ≡ blocksOf (length c)) × (all ≡ textSum suite key nonce c done)
+Inv-loop suite key nonce c first m total all₀ done₀ all done =
+    (done ≤ blocksOf (length c)) × (total ≡ blocksOf (length c)) × (all ≡ textSum suite key nonce c done)
 
 abbrev μ-loop : tie.MeasureT-loop
 μ-loop suite key nonce c first m total all₀ done₀ all done = total - done

@@ -6,12 +6,12 @@ use native.Mathlib.Omega.{arith}
 use borrow.Author.Needs.{needs}
 use lib.ListN.{length, take, drop}
 use lib.Seq.{length-take-le}
-use Rattle.calls.specs.Pieces.{through, tagFrom}
+use Rattle.calls.specs.Pieces.{tagFrom}
 use Rattle.calls.specs.Tweak.{blocksOf}
 use Rattle.calls.proofs.ByBlocks.{openingTag-is}
 use Rattle.text_blocks.specs.Under.{enciphers, deciphers}
 use Rattle.text_blocks.proofs.Chunks.{enciphers-blockwise, deciphers-blockwise}
-use Rattle.sealing.specs.Passes.{textSum}
+use Rattle.sealing.specs.Passes.{textPart, textSum}
 use Rattle.passes.proofs.Windows.{part-of-rest, sum-none, sum-all}
 use Rattle.passes.proofs.tag_of.Statement.{statement}
 use Rattle.passes.proofs.tag_of.Tie as tie
@@ -25,8 +25,13 @@ add-window-requires c κs =
     let h = c .before in
     let p = h .before .before .before .before .before in
     let a = p .args in
-    let n : length (take (h .lesser .result) (a .work .now)) ≡ min (length (a .c .now) - 16 * 0) (length (a .work .now)) = front h ∙ h .lesser .ensures ∙ omega arith in
-    (p .pre .1, rw n (part-of-rest (length (a .c .now)) 0 (length (a .work .now)) (omega arith) (p .pre .1 .small) (p .pre .2)), sum-none (a .suite) (a .key) (a .nonce .now) (a .c .now))
+    let m = length (a .c .now) in
+    let w = length (a .work .now) in
+    let n : length (take (h .lesser .result) (a .work .now)) ≡ min (m - 16 * 0) w = front h ∙ h .lesser .ensures ∙ omega arith in (
+      p .pre .1,
+      rw n (part-of-rest m 0 w (omega arith) (p .pre .1 .small) (p .pre .2)),
+      sum-none (a .suite) (a .key) (a .nonce .now) (a .c .now),
+    )
 
 add-rest-requires : tie.Need-add-rest-requires
 add-rest-requires c κs =
@@ -48,11 +53,14 @@ returns c =
     let d = deciphers (a .suite) (a .key) in
     let short = p .pre .1 .usable .short in
     let all = c .before .before .add-rest .ensures ∙ sum-all (a .suite) (a .key) (a .nonce .now) (a .c .now) short (p .pre .1 .small) in
-    let n = front h ∙ h .lesser .ensures in (
+    let n = front h ∙ h .lesser .ensures in
+    let first = w .add-window .ensures .1 ∙ ap (textPart (a .suite) (a .key) (a .nonce .now) (a .c .now) 0) n in (
       c .make .ensures
           ∙ (λ i. tagFrom e (a .nonce .now) m (all i) (c .before .sum .ensures i))
-          ∙ sym (openingTag-is e d (enciphers-blockwise (a .suite) (a .key)) (a .nonce .now) short (a .header .now) (deciphers-blockwise (a .suite) (a .key)) (a .c .now)),
-      (λ i. (w .add-window .ensures .1 ∙ ap (λ k. through d e (a .nonce .now) m 0 (take k (a .c .now))) n) i ++ drop (h .lesser .ensures i) (a .work .now)),
+          ∙ sym
+          (openingTag-is e d (enciphers-blockwise (a .suite) (a .key)) (a .nonce .now) short (a .header .now)
+          (deciphers-blockwise (a .suite) (a .key)) (a .c .now)),
+      (λ i. first i ++ drop (h .lesser .ensures i) (a .work .now)),
     )
 
 pub tag-of-spec : {M : Type 1} → statement M

@@ -12,7 +12,8 @@ use Rattle.passes.proofs.window.Statement.{statement}
 use Rattle.passes.proofs.window.Tie as tie
 
 module _ (c : tie.After-copy) where
-  copied : c .copy .last .1 .0 ≡ take (length (c .before .before .before .before .before .before .args .work .now)) (drop (16 * c .before .before .before .before .before .before .args .first) (c .before .before .before .before .before .before .args .c .now))
+  copied : let a = c .before .before .before .before .before .before .args in
+      c .copy .last .1 .0 ≡ take (length (a .work .now)) (drop (16 * a .first) (a .c .now))
   copied =
       let p = c .before .before .before .before .before .before in
       c .copy .ensures ∙ copied-is (16 * p .args .first) (p .args .c .now) (p .args .work .now) (p .pre .1 .within)
@@ -20,7 +21,8 @@ module _ (c : tie.After-copy) where
   long : length (c .copy .last .1 .0) ≡ length (c .before .before .before .before .before .before .args .work .now)
   long =
       let p = c .before .before .before .before .before .before in
-      ap length copied ∙ length-take-le (length (p .args .work .now)) (drop (16 * p .args .first) (p .args .c .now)) (rw length-drop (omega (arith, p .pre .1 .within)))
+      ap length copied
+      ∙ length-take-le (length (p .args .work .now)) (drop (16 * p .args .first) (p .args .c .now)) (rw length-drop (omega (arith, p .pre .1 .within)))
 
 through-requires : tie.Need-through-requires
 through-requires c κs =
@@ -32,7 +34,8 @@ returns : tie.Need-returns
 returns c =
     let h = c .before .before .before .before .before .before in
     let a = h .before .before .before .before .before .before .args in
-    c .before .before .through .ensures ∙ ap (through (deciphers (a .suite) (a .key)) (enciphers (a .suite) (a .key)) (a .nonce .now) (length (a .c .now)) (a .first)) (copied h)
+    c .before .before .through .ensures
+    ∙ ap (through (deciphers (a .suite) (a .key)) (enciphers (a .suite) (a .key)) (a .nonce .now) (length (a .c .now)) (a .first)) (copied h)
 
 pub window-spec : {M : Type 1} → statement M
 window-spec =

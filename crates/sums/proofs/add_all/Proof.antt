@@ -18,7 +18,8 @@ returns c =
 returns-2 : tie.Need-returns-2
 returns-2 c =
     let a = c .before .before .before .before .before .before .args in
-    let last : c .before .fill .result ≡ filled 0 (drop (length (a .s .now) / 16 * 16) (a .s .now)) = c .before .fill .ensures ∙ ap (filled 0) (part-rest (length (a .s .now) / 16 * 16) (a .s .now)) in
+    let at = length (a .s .now) / 16 * 16 in
+    let last : c .before .fill .result ≡ filled 0 (drop at (a .s .now)) = c .before .fill .ensures ∙ ap (filled 0) (part-rest at (a .s .now)) in
     c .add .ensures ∙ (λ i. added (c .before .before .before .before .add-blocks .ensures i) (last i)) ∙ all-but-last (a .sum) (a .s .now) (λ e. omega arith)
 
 pub add-all-spec : {M : Type 1} → statement M

@@ -1,7 +1,7 @@
 -- The loop fills d from the front.
 use mathlib.Core.Path.{_≡_, refl, ap, _∙_}
 use mathlib.Core.List.{_++_}
-use Prim.Native.Nat.{_+_, _-_, _≤_}
+use Prim.Native.Nat.{_-_, _≤_}
 use native.Mathlib.Omega.{arith}
 use borrow.Author.Needs.{needs}
 use lib.ListN.{length, getD, set, take, drop}
@@ -23,7 +23,9 @@ loop-again : tie.Need-loop-again Inv-loop μ-loop
 loop-again c =
     let h = c .before .before in
     let a = h .before .args in
-    (omega arith, ap (λ d. set d (h .loop .i) (getD (a .s .now) (h .loop .i) 0)) (h .loop .inv .1) ∙ front-more (a .d .now) (a .s .now) (h .loop .i) (omega arith) (omega arith))
+    let i = h .loop .i in
+    let s = a .s .now in
+    (omega arith, ap (λ d. set d i (getD s i 0)) (h .loop .inv .1) ∙ front-more (a .d .now) s i (omega arith) (omega arith))
 
 returns : tie.Need-returns Inv-loop μ-loop
 returns c =

@@ -9,7 +9,7 @@ use lib.ListN.{length, take, drop, length-drop}
 use Rattle.calls.specs.Tweak.{textTweak}
 use Rattle.calls.proofs.Tweaks.{length-tweak}
 use Rattle.blockwise.specs.Blocks.{block, strung}
-use Rattle.text_blocks.specs.Under.{either}
+use Rattle.text_blocks.specs.Under.{numbered, firstBlocks}
 use Rattle.sums.proofs.Sums.{part-rest, part-none}
 use Rattle.text_blocks.proofs.Chunks.{either-blockwise, left-is, done-is, length-done, more-done}
 use Rattle.text_blocks.proofs.blocks.Statement.{statement}
@@ -17,7 +17,7 @@ use Rattle.text_blocks.proofs.blocks.Tie as tie
 
 abbrev Inv-loop : tie.InvT-loop
 Inv-loop ahead suite key nonce s₀ number n done₀ s done =
-    (done ≤ n) × (s ≡ strung done (λ i. either ahead suite key (textTweak nonce (number + i)) (block s₀ i)) ++ drop (16 * done) s₀)
+    (done ≤ n) × (s ≡ firstBlocks ahead suite key nonce number done s₀)
 
 abbrev μ-loop : tie.MeasureT-loop
 μ-loop ahead suite key nonce s₀ number n done₀ s done = n - done
@@ -27,20 +27,21 @@ module _ (c : tie.At-loop Inv-loop μ-loop) where
   each : ℕ → List ℕ → List ℕ
   each i b =
       let a = c .before .before .before .args in
-      either (a .ahead) (a .suite) (a .key) (textTweak (a .nonce .now) (a .first .0 + i)) b
+      numbered (a .ahead) (a .suite) (a .key) (a .nonce .now) (a .first .0 + i) b
 
   long : (i : ℕ) (b : List ℕ) → length b ≡ 16 → length (each i b) ≡ 16
   unfolding each
   long i b h =
       let a = c .before .before .before .args in
-      either-blockwise (a .ahead) (a .suite) (a .key) .long (textTweak (a .nonce .now) (a .first .0 + i)) b (length-tweak (a .nonce .now) 0x00 (a .first .0 + i) (omega arith)) h
+      let number = a .first .0 + i in
+      either-blockwise (a .ahead) (a .suite) (a .key) .long (textTweak (a .nonce .now) number) b (length-tweak (a .nonce .now) 0x00 number (omega arith)) h
 
   kept : length (c .loop .s) ≡ length (c .before .before .before .args .s .now)
   unfolding each
   kept = ap length (c .loop .inv .1) ∙ length-done each long (c .before .before .before .args .s .now) (c .loop .done) 0 (omega arith)
 
   -- what is left of the blocks is as it was
-  part : take (length (c .loop .s) - 16 * c .loop .done) (drop (16 * c .loop .done) (c .loop .s)) ≡ drop (16 * c .loop .done) (c .before .before .before .args .s .now)
+  part : let at = 16 * c .loop .done in take (length (c .loop .s) - at) (drop at (c .loop .s)) ≡ drop at (c .before .before .before .args .s .now)
   unfolding each
   part =
       part-rest (16 * c .loop .done) (c .loop .s)
@@ -66,13 +67,16 @@ loop-again c =
     let n = h .loop .done in
     let k = c .before .before .before .before .up-to-64 .result in
     let room : 16 * n ≤ length s = omega arith in
-    let front : take (16 * n) (h .loop .s) ≡ strung n (λ i. each h i (block s i)) = ap (take (16 * n)) (h .loop .inv .1) ∙ done-is (each h) (long h) s n k room in
-    let new : c .before .before .chunk .last .1 .1 .1 .1 .1 .1 .0 ≡ strung k (λ i. each h (n + i) (block (drop (16 * n) s) i)) ++ drop (16 * k) (drop (16 * n) s) =
+    let before = strung n (λ i. each h i (block s i)) in
+    let more = strung k (λ i. each h (n + i) (block (drop (16 * n) s) i)) ++ drop (16 * k) (drop (16 * n) s) in
+    let by : ℕ → List ℕ → List ℕ = numbered (a .ahead) (a .suite) (a .key) (a .nonce .now) in
+    let front : take (16 * n) (h .loop .s) ≡ before = ap (take (16 * n)) (h .loop .inv .1) ∙ done-is (each h) (long h) s n k room in
+    let new : c .before .before .chunk .last .1 .1 .1 .1 .1 .1 .0 ≡ more =
     c .before .before .chunk .ensures
-    ∙ (λ j. strung k (λ i. either (a .ahead) (a .suite) (a .key) (textTweak (a .nonce .now) (add-assoc (a .first .0) n i j)) (block (part h j) i)) ++ drop (16 * k) (part h j)) in (
+    ∙ (λ j. strung k (λ i. by (add-assoc (a .first .0) n i j) (block (part h j) i)) ++ drop (16 * k) (part h j)) in (
       omega arith,
       (λ j. front j ++ (new j ++ part-none (16 * n) (h .loop .s) j))
-          ∙ ap (λ l. strung n (λ i. each h i (block s i)) ++ l) (append-nil (strung k (λ i. each h (n + i) (block (drop (16 * n) s) i)) ++ drop (16 * k) (drop (16 * n) s)))
+          ∙ ap (λ l. before ++ l) (append-nil more)
           ∙ more-done (each h) (long h) s n k room,
     )
 
@@ -81,7 +85,7 @@ returns c =
     let h = c .before in
     let a = h .before .before .before .args in
     let e : h .loop .done ≡ length (a .s .now) / 16 = omega arith in
-    h .loop .inv .1 ∙ ap (λ n. strung n (λ i. either (a .ahead) (a .suite) (a .key) (textTweak (a .nonce .now) (a .first .0 + i)) (block (a .s .now) i)) ++ drop (16 * n) (a .s .now)) e
+    h .loop .inv .1 ∙ ap (λ n. firstBlocks (a .ahead) (a .suite) (a .key) (a .nonce .now) (a .first .0) n (a .s .now)) e
 
 pub blocks-spec : {M : Type 1} → statement M
 blocks-spec =

@@ -8,8 +8,8 @@ use lib.ListN.{length, take, drop, replicate}
 use Rattle.calls.specs.Tweak.{textTweak}
 use Rattle.calls.proofs.Tweaks.{length-tweak}
 use Rattle.cipher.specs.Entry.{encipheredBlocks, decipheredBlocks}
-use Rattle.blockwise.specs.Blocks.{block, strung}
-use Rattle.text_blocks.specs.Under.{either}
+use Rattle.blockwise.specs.Blocks.{strung}
+use Rattle.text_blocks.specs.Under.{firstBlocks}
 use Rattle.text_blocks.proofs.Chunks.{strung-front, enciphered-strung, deciphered-strung}
 use Rattle.text_blocks.proofs.chunk.Statement.{statement}
 use Rattle.text_blocks.proofs.chunk.Tie as tie
@@ -32,7 +32,8 @@ module _ (c : tie.After-tweaks2) where
   unfolding tweaks rest
   made = c .before .text-tweaks .ensures
 
-  share : 16 * c .before .before .before .before .before .args .k ≡ length (take (16 * c .before .before .before .before .before .args .k) (c .before .text-tweaks .last .1 .1 .1 .0))
+  share : let k = c .before .before .before .before .before .args .k in
+      16 * k ≡ length (take (16 * k) (c .before .text-tweaks .last .1 .1 .1 .0))
   share =
       let k = c .before .before .before .before .before .args .k in
       sym (ap (λ (l : List ℕ). length (take (16 * k) l)) made ∙ strung-front k tweaks long rest)
@@ -46,7 +47,7 @@ returns c =
     c .before .before .encipher-blocks .ensures .1
     ∙ ap (λ t. encipheredBlocks (a .suite .cipher) (a .suite .steps) (a .key) (take (16 * a .k) t) (a .s .now)) (made h)
     ∙ enciphered-strung (a .k) (tweaks h) (long h) (rest h) (a .s .now) (p .pre .2) (a .suite) (a .key) (p .pre .0 .suite)
-    ∙ ap (λ b. strung (a .k) (λ i. either b (a .suite) (a .key) (tweaks h i) (block (a .s .now) i)) ++ drop (16 * a .k) (a .s .now)) (sym (c .before .before .before .before .before .if1 .taken))
+    ∙ ap (λ b. firstBlocks b (a .suite) (a .key) (a .nonce .now) (a .first .0) (a .k) (a .s .now)) (sym (c .before .before .before .before .before .if1 .taken))
 
 returns-2 : tie.Need-returns-2
 unfolding tweaks rest
@@ -57,7 +58,7 @@ returns-2 c =
     c .before .before .decipher-blocks .ensures .1
     ∙ ap (λ t. decipheredBlocks (a .suite .cipher) (a .suite .steps) (a .key) (take (16 * a .k) t) (a .s .now)) (made h)
     ∙ deciphered-strung (a .k) (tweaks h) (long h) (rest h) (a .s .now) (p .pre .2) (a .suite) (a .key) (p .pre .0 .suite)
-    ∙ ap (λ b. strung (a .k) (λ i. either b (a .suite) (a .key) (tweaks h i) (block (a .s .now) i)) ++ drop (16 * a .k) (a .s .now)) (sym (c .before .before .before .before .before .if1 .left))
+    ∙ ap (λ b. firstBlocks b (a .suite) (a .key) (a .nonce .now) (a .first .0) (a .k) (a .s .now)) (sym (c .before .before .before .before .before .if1 .left))
 
 pub chunk-spec : {M : Type 1} → statement M
 chunk-spec =

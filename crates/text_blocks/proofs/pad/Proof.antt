@@ -16,8 +16,8 @@ length-block r = refl
 returns : tie.Need-returns
 returns c =
     let a = c .before .before .before .before .args in
-    c .encipher-one .ensures
-    ∙ (λ i. enciphers (a .suite) (a .key) ((c .before .special-tweak .ensures ∙ ap (specialTweak (a .nonce .now)) (c .before .before .mark .ensures)) i) (length-block (a .r) i))
+    let tweak = c .before .special-tweak .ensures ∙ ap (specialTweak (a .nonce .now)) (c .before .before .mark .ensures) in
+    c .encipher-one .ensures ∙ (λ i. enciphers (a .suite) (a .key) (tweak i) (length-block (a .r) i))
 
 pub pad-spec : {M : Type 1} → statement M
 pad-spec =

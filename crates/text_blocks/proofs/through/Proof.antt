@@ -8,12 +8,11 @@ use lib.ListN.{length, take, drop}
 use lib.Seq.{take-at, drop-at, length-take-le}
 use Rattle.bits.specs.Bytes.{added}
 use Rattle.calls.specs.Calls.{lengthBlock}
-use Rattle.calls.specs.Pieces.{through}
 use Rattle.calls.specs.Tweak.{textTweak, specialTweak, lastTextMark}
 use Rattle.blockwise.specs.Blocks.{block, strung}
 use Rattle.blockwise.proofs.Each.{strung-whole, block-long}
 use Rattle.calls.proofs.Tweaks.{length-tweak}
-use Rattle.text_blocks.specs.Under.{enciphers, either}
+use Rattle.text_blocks.specs.Under.{enciphers, either, numbered}
 use Rattle.text_blocks.proofs.Chunks.{either-blockwise}
 use Rattle.text_blocks.proofs.Parts.{before-whole, front-blocks, through-before, through-none, through-last}
 use Rattle.sums.proofs.Sums.{part-rest, part-none}
@@ -21,7 +20,7 @@ use Rattle.text_blocks.proofs.through.Statement.{statement}
 use Rattle.text_blocks.proofs.through.Tie as tie
 
 -- the whole blocks before the last
-front : (c : tie.Else2) → 16 * ((length (c .before .before .before .before .args .s .now) - 1) / 16) ≡ length (take (16 * ((length (c .before .before .before .before .args .s .now) - 1) / 16)) (c .before .before .before .before .args .s .now))
+front : (c : tie.Else2) → let s = c .before .before .before .before .args .s .now in let at = 16 * ((length s - 1) / 16) in at ≡ length (take at s)
 front c =
     let s = c .before .before .before .before .args .s .now in
     sym (length-take-le (16 * ((length s - 1) / 16)) s (omega arith))
@@ -38,7 +37,8 @@ returns c =
     let n = length (a .s .now) in
     let whole : n % 16 ≡ 0 = before-whole (a .m) (16 * a .first .0 + n) n (p .pre .1 .whole) (omega arith) in
     c .before .before .blocks2 .ensures
-    ∙ through-before (either (a .ahead) (a .suite) (a .key)) (enciphers (a .suite) (a .key)) (a .nonce .now) (a .m) (a .first .0) (a .s .now) (omega arith) whole
+    ∙ through-before (either (a .ahead) (a .suite) (a .key)) (enciphers (a .suite) (a .key)) (a .nonce .now) (a .m) (a .first .0) (a .s .now)
+    (omega arith) whole
 
 returns-2 : tie.Need-returns-2
 returns-2 c =
@@ -54,18 +54,25 @@ returns-3 c =
     let n = length s in
     let k = (n - 1) / 16 in
     let at = 16 * k in
-    let g : ℕ → List ℕ → List ℕ = λ i b. either (a .ahead) (a .suite) (a .key) (textTweak (a .nonce .now) (a .first .0 + i)) b in
+    let g : ℕ → List ℕ → List ℕ = λ i b. numbered (a .ahead) (a .suite) (a .key) (a .nonce .now) (a .first .0 + i) b in
+    let tweak : (i : ℕ) → length (textTweak (a .nonce .now) (a .first .0 + i)) ≡ 16 = λ i. length-tweak (a .nonce .now) 0x00 (a .first .0 + i) (omega arith) in
     let some : 0 < n = omega arith in
     let R = h .blocks3 .last .1 .1 .1 .1 .1 .0 in
     let made : R ≡ strung k (λ i. g i (block s i)) = h .blocks3 .ensures ∙ front-blocks g s k (omega arith) in
-    let long : length R ≡ at = ap length made ∙ strung-whole k (λ i. g i (block s i)) (λ i l. either-blockwise (a .ahead) (a .suite) (a .key) .long (textTweak (a .nonce .now) (a .first .0 + i)) (block s i) (length-tweak (a .nonce .now) 0x00 (a .first .0 + i) (omega arith)) (block-long s i (omega arith))) in
+    let long : length R ≡ at =
+    ap length made
+    ∙ strung-whole k (λ i. g i (block s i))
+    (λ i l.
+    either-blockwise (a .ahead) (a .suite) (a .key) .long (textTweak (a .nonce .now) (a .first .0 + i)) (block s i) (tweak i) (block-long s i (omega arith))) in
     let pad = enciphers (a .suite) (a .key) (specialTweak (a .nonce .now) (lastTextMark (a .m))) (lengthBlock (n - at)) in
     let W = R ++ drop at s in
     let left : take (length W - at) (drop at W) ≡ drop at s = part-rest at W ∙ drop-at R (drop at s) at long in
-    let new : c .before .before .add-to .last .0 ≡ added (drop at s) pad = c .before .before .add-to .ensures ∙ (λ j. added (left j) (c .before .before .before .before .pad .ensures j)) in
+    let new : c .before .before .add-to .last .0 ≡ added (drop at s) pad =
+    c .before .before .add-to .ensures ∙ (λ j. added (left j) (c .before .before .before .before .pad .ensures j)) in
     (λ j. (take-at R (drop at s) at long ∙ made) j ++ (new j ++ part-none at W j))
     ∙ ap (λ l. strung k (λ i. g i (block s i)) ++ l) (append-nil (added (drop at s) pad))
-    ∙ through-last (either (a .ahead) (a .suite) (a .key)) (enciphers (a .suite) (a .key)) (a .nonce .now) (a .m) (a .first .0) s k refl some (omega arith)
+    ∙ through-last (either (a .ahead) (a .suite) (a .key)) (enciphers (a .suite) (a .key)) (a .nonce .now) (a .m) (a .first .0) s
+    k refl some (omega arith)
 
 pub through-spec : {M : Type 1} → statement M
 through-spec =

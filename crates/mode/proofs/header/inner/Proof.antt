@@ -30,10 +30,11 @@ chunk-requires c κs = (c .before .before .before .before .before .before .pre .
 loop-again : tie.Need-loop-again Inv-loop μ-loop
 loop-again c =
     let h = c .before .before .before .before in
-    let a = h .before .before .before .args in (
+    let a = h .before .before .before .args in
+    let k = c .before .before .up-to-64 .result in (
       omega arith,
       c .chunk .ensures
-          ∙ sum-chunk (λ i. enciphers (a .suite) (a .key) (headerTweak (a .nonce .now) i)) (a .header .now) (h .loop .sum) (h .loop .done) (c .before .before .up-to-64 .result) (h .loop .inv .1),
+          ∙ sum-chunk (λ i. enciphers (a .suite) (a .key) (headerTweak (a .nonce .now) i)) (a .header .now) (h .loop .sum) (h .loop .done) k (h .loop .inv .1),
     )
 
 returns : tie.Need-returns Inv-loop μ-loop

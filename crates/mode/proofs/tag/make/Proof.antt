@@ -12,10 +12,9 @@ returns : tie.Need-returns
 unfolding tagFrom
 returns c =
     let a = c .before .before .before .before .before .args in
+    let tweak = c .before .before .special-tweak .ensures ∙ ap (specialTweak (a .nonce .now)) (c .before .before .before .mark .ensures) in
     c .add .ensures
-    ∙ ap (λ b. added b (a .sum))
-    (c .before .encipher-one .ensures
-    ∙ ap (λ t. enciphers (a .suite) (a .key) t (a .checksum)) (c .before .before .special-tweak .ensures ∙ ap (specialTweak (a .nonce .now)) (c .before .before .before .mark .ensures)))
+    ∙ ap (λ b. added b (a .sum)) (c .before .encipher-one .ensures ∙ ap (λ t. enciphers (a .suite) (a .key) t (a .checksum)) tweak)
 
 pub make-spec : {M : Type 1} → statement M
 make-spec = tie.close (tie.spec (λ c κs. search needs) (λ c κs. search needs) (λ c κs. search needs) (λ c κs. search needs) returns)

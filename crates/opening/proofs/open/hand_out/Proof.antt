@@ -9,6 +9,7 @@ use lib.ListN.{length, take, drop, length-append, length-drop}
 use lib.Seq.{length-take-le, take-length, take-at, drop-at, drop-drop}
 use Rattle.calls.specs.Pieces.{through}
 use Rattle.text_blocks.specs.Under.{enciphers, deciphers}
+use Rattle.sealing.specs.Passes.{textPart}
 use Rattle.sums.proofs.Sums.{part-rest}
 use Rattle.opening.proofs.Opened.{through-split}
 use Rattle.opening.proofs.open.hand_out.Statement.{statement}
@@ -19,18 +20,19 @@ module _ (c : tie.After-lesser) where
   front : length (take (c .lesser .result) (c .before .before .before .before .before .args .work .now)) ≡ c .lesser .result
   front = length-take-le (c .lesser .result) (c .before .before .before .before .before .args .work .now) (omega arith)
 
-  first : take (c .lesser .result) (c .before .before .before .before .before .args .work .now)
-      ≡ (let a = c .before .before .before .before .before .args in through (deciphers (a .suite) (a .key)) (enciphers (a .suite) (a .key)) (a .nonce .now) (length (a .c .now)) 0 (take (c .lesser .result) (a .c .now)))
+  first : let a = c .before .before .before .before .before .args in
+      take (c .lesser .result) (a .work .now) ≡ textPart (a .suite) (a .key) (a .nonce .now) (a .c .now) 0 (c .lesser .result)
   first =
       let p = c .before .before .before .before .before in
       let a = p .args in
       ap (λ n. take n (a .work .now)) (c .lesser .ensures)
       ∙ p .pre .3
-      ∙ ap (λ n. through (deciphers (a .suite) (a .key)) (enciphers (a .suite) (a .key)) (a .nonce .now) (length (a .c .now)) 0 (take n (a .c .now))) (sym (c .lesser .ensures))
+      ∙ ap (textPart (a .suite) (a .key) (a .nonce .now) (a .c .now) 0) (sym (c .lesser .ensures))
 
 -- what was copied stands at the output's start
 module _ (c : tie.After-copy) where
-  copied : c .copy .last .1 .0 ≡ take (c .before .before .before .lesser .result) (c .before .before .before .before .before .before .before .before .args .work .now) ++ drop (c .before .before .before .lesser .result) (c .before .before .before .before .before .before .before .before .args .out .now)
+  copied : let n = c .before .before .before .lesser .result in let a = c .before .before .before .before .before .before .before .before .args in
+      c .copy .last .1 .0 ≡ take n (a .work .now) ++ drop n (a .out .now)
   copied =
       let h = c .before .before .before in
       let a = h .before .before .before .before .before .args in
@@ -45,14 +47,16 @@ module _ (c : tie.After-copy) where
       ∙ omega (arith, front h, length-drop (h .lesser .result) (a .out .now))
 
   -- what is left of the text
-  left : let n = c .before .before .before .lesser .result in let m = length (c .before .before .before .before .before .before .before .before .args .c .now) in length (take (m - n) (drop n (c .copy .last .1 .0))) ≡ m - n
+  left : let n = c .before .before .before .lesser .result in
+      let m = length (c .before .before .before .before .before .before .before .before .args .c .now) in
+      length (take (m - n) (drop n (c .copy .last .1 .0))) ≡ m - n
   left =
       let n = c .before .before .before .lesser .result in
       let m = length (c .before .before .before .before .before .before .before .before .args .c .now) in
       length-take-le (m - n) (drop n (c .copy .last .1 .0)) (rw (length-drop, kept) (omega arith))
 
 -- where the first window is all of `work`, whole blocks
-blocks : (c : tie.Then1) → 16 * (c .before .before .before .before .before .before .lesser .result / 16) ≡ c .before .before .before .before .before .before .lesser .result
+blocks : (c : tie.Then1) → let n = c .before .before .before .before .before .before .lesser .result in 16 * (n / 16) ≡ n
 blocks c =
     let h = c .before .before .before .before .before .before in
     let p = h .before .before .before .before .before in
@@ -81,15 +85,19 @@ returns c =
     let b = blocks t in
     let C = k .copy .last .1 .0 in
     let A = take n (a .work .now) in
-    let start : take n C ≡ through f e (a .nonce .now) m 0 (take (16 * (n / 16)) (a .c .now)) =
-    ap (take n) (copied k) ∙ take-at A (drop n (a .out .now)) n (front h) ∙ first h ∙ ap (λ j. through f e (a .nonce .now) m 0 (take j (a .c .now))) (sym b) in
-    let rest : take (length (take (m - n) (drop n C))) (drop (16 * (n / 16)) (a .c .now)) ≡ drop (16 * (n / 16)) (a .c .now) =
-    ap (λ j. take j (drop (16 * (n / 16)) (a .c .now))) (left k ∙ ap (λ j. m - j) (sym b)) ∙ part-rest (16 * (n / 16)) (a .c .now) in
+    let at = 16 * (n / 16) in
+    let part = textPart (a .suite) (a .key) (a .nonce .now) (a .c .now) 0 in
+    let start : take n C ≡ part at = ap (take n) (copied k) ∙ take-at A (drop n (a .out .now)) n (front h) ∙ first h ∙ ap part (sym b) in
+    let rest : take (length (take (m - n) (drop n C))) (drop at (a .c .now)) ≡ drop at (a .c .now) =
+    ap (λ j. take j (drop at (a .c .now))) (left k ∙ ap (λ j. m - j) (sym b)) ∙ part-rest at (a .c .now) in
     let all : n + (m - n) ≡ m = omega arith in
     let behind : drop (m - n) (drop n C) ≡ drop m (a .out .now) =
-    ap (λ l. drop (m - n) (drop n l)) (copied k) ∙ ap (drop (m - n)) (drop-at A (drop n (a .out .now)) n (front h)) ∙ drop-drop (m - n) n (a .out .now) ∙ ap (λ j. drop j (a .out .now)) all in
+    ap (λ l. drop (m - n) (drop n l)) (copied k)
+    ∙ ap (drop (m - n)) (drop-at A (drop n (a .out .now)) n (front h))
+    ∙ drop-drop (m - n) n (a .out .now)
+    ∙ ap (λ j. drop j (a .out .now)) all in
     (λ i. start i ++ ((c .before .before .window .ensures ∙ ap (through f e (a .nonce .now) m (n / 16)) rest) i ++ behind i))
-    ∙ sym (append-assoc (through f e (a .nonce .now) m 0 (take (16 * (n / 16)) (a .c .now))) (through f e (a .nonce .now) m (n / 16) (drop (16 * (n / 16)) (a .c .now))) (drop m (a .out .now)))
+    ∙ sym (append-assoc (part at) (through f e (a .nonce .now) m (n / 16) (drop at (a .c .now))) (drop m (a .out .now)))
     ∙ ap (λ l. l ++ drop m (a .out .now)) (sym (through-split f e (a .nonce .now) m (a .c .now) (n / 16) (omega arith)))
 
 returns-2 : tie.Need-returns-2
@@ -98,8 +106,10 @@ returns-2 c =
     let h = k .before .before .before in
     let a = h .before .before .before .before .before .args in
     let all : h .lesser .result ≡ length (a .c .now) = omega arith in
-    copied k
-    ∙ (λ i. (first h ∙ ap (through (deciphers (a .suite) (a .key)) (enciphers (a .suite) (a .key)) (a .nonce .now) (length (a .c .now)) 0) (ap (λ n. take n (a .c .now)) all ∙ take-length (a .c .now))) i ++ drop (all i) (a .out .now))
+    let f = deciphers (a .suite) (a .key) in
+    let e = enciphers (a .suite) (a .key) in
+    let whole = ap (λ n. take n (a .c .now)) all ∙ take-length (a .c .now) in
+    copied k ∙ (λ i. (first h ∙ ap (through f e (a .nonce .now) (length (a .c .now)) 0) whole) i ++ drop (all i) (a .out .now))
 
 pub hand-out-spec : {M : Type 1} → statement M
 hand-out-spec =

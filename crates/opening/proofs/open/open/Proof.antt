@@ -1,24 +1,27 @@
 -- The tests, then the tag and the text.
 use mathlib.Core.Path.{_≡_, sym, ap, _∙_}
-use Prim.Native.Nat.{_-_}
+use mathlib.Core.List.{List}
+use Prim.Native.Nat.{ℕ, _-_}
 use native.Mathlib.Nat.{le-of-eq}
 use borrow.Author.Needs.{needs}
 use lib.ListN.{length}
 use lib.Seq.{take-all}
+use Rattle.suites.specs.declared.refusal.Answer.{Answer}
 use Rattle.suites.specs.declared.refusal.Answer.the-variants.{Done}
-use Rattle.limits.specs.Tests.{openTests}
-use Rattle.opening.specs.Open.{opened, agrees, thenTag, openReport}
+use Rattle.opening.specs.Open.{opened, byTag, openReport}
 use Rattle.sealing.specs.Seal.{written}
-use Rattle.opening.proofs.Answers.{Ready, open-refused, open-ready, open-room, open-done}
+use Rattle.opening.proofs.Answers.{Ready, tests, open-refused, open-ready, open-room, open-done}
 use Rattle.opening.proofs.open.open.Statement.{statement}
 use Rattle.opening.proofs.open.open.Tie as tie
 
 module _ (c : tie.After-enum-told) where
   -- the tests are done
-  done : let a = c .before .before .before .before .before .before .before .before .args in openTests (a .suite .cipher) (a .suite .steps) (length (a .key .now)) (length (a .nonce .now)) (length (a .header .now)) (length (a .sealed .now)) (length (a .out .now)) ≡ Done
+  done : let a = c .before .before .before .before .before .before .before .before .args in
+      tests (a .suite) (a .key .now) (a .nonce .now) (a .header .now) (a .sealed .now) (a .out .now) ≡ Done
   done = sym (c .before .before .open-tests .ensures) ∙ c .enum-told .given .1
 
-  given : let a = c .before .before .before .before .before .before .before .before .args in Ready (a .suite) (a .key .now) (a .nonce .now) (a .header .now) (a .sealed .now)
+  given : let a = c .before .before .before .before .before .before .before .before .args in
+      Ready (a .suite) (a .key .now) (a .nonce .now) (a .header .now) (a .sealed .now)
   given =
       let a = c .before .before .before .before .before .before .before .before .args in
       open-ready (a .suite) (a .key .now) (a .nonce .now) (a .header .now) (a .sealed .now) (a .out .now) done
@@ -28,7 +31,12 @@ open-tested-requires c κs =
     let h = c .before .before in
     let a = h .before .before .before .before .before .before .before .before .args in
     let g = given h in
-    (g .header, g .text, g .long, open-room (a .suite) (a .key .now) (a .nonce .now) (a .header .now) (a .sealed .now) (a .out .now) (done h))
+    record {
+      header = g .header;
+      text = g .text;
+      long = g .long;
+      room = open-room (a .suite) (a .key .now) (a .nonce .now) (a .header .now) (a .sealed .now) (a .out .now) (done h);
+    }
 
 returns : tie.Need-returns
 returns c =
@@ -43,11 +51,11 @@ returns-2 c =
     let a = h .before .before .before .before .before .before .before .before .args in
     let is = open-done (a .suite) (a .key .now) (a .nonce .now) (a .header .now) (a .sealed .now) (a .out .now) (done h) in
     let key : k .block-at .result ≡ a .key .now = k .block-at .ensures ∙ take-all 16 (a .key .now) (le-of-eq (given h .whole)) in
-    let o = c .before .before .before .open-tested .ensures in (
-      c .report .ensures ∙ ap (λ r. openReport r (length (a .sealed .now) - 16)) (o .0 ∙ ap (λ x. thenTag Done (agrees (a .suite .cipher) (a .suite .steps) x (a .nonce .now) (a .header .now) (a .sealed .now))) key) ∙ is .0,
-      o .1
-          ∙ ap (λ x. written (thenTag Done (agrees (a .suite .cipher) (a .suite .steps) x (a .nonce .now) (a .header .now) (a .sealed .now))) (opened (a .suite .cipher) (a .suite .steps) x (a .nonce .now) (a .header .now) (a .sealed .now)) (a .out .now)) key
-          ∙ is .1,
+    let o = c .before .before .before .open-tested .ensures in
+    let tag : List ℕ → Answer = λ x. byTag (a .suite) x (a .nonce .now) (a .header .now) (a .sealed .now) in
+    let text : List ℕ → List ℕ = λ x. opened (a .suite .cipher) (a .suite .steps) x (a .nonce .now) (a .header .now) (a .sealed .now) in (
+      c .report .ensures ∙ ap (λ r. openReport r (length (a .sealed .now) - 16)) (o .answer ∙ ap tag key) ∙ is .0,
+      o .output ∙ ap (λ x. written (tag x) (text x) (a .out .now)) key ∙ is .1,
     )
 
 pub open-spec : {M : Type 1} → statement M

@@ -5,9 +5,8 @@ use native.Mathlib.Omega.{arith}
 use borrow.Author.Needs.{needs}
 use lib.ListN.{length, take}
 use lib.Seq.{length-take-le}
-use Rattle.calls.specs.Pieces.{through}
 use Rattle.bits.specs.Bytes.{sameBytes}
-use Rattle.text_blocks.specs.Under.{enciphers, deciphers}
+use Rattle.sealing.specs.Passes.{textPart}
 use Rattle.opening.specs.Open.{ciphertext, agrees}
 use Rattle.opening.proofs.Opened.{work-kept, work-front, window-long, with-tag, without-tag, agrees-is}
 use Rattle.opening.proofs.open.open_with.Statement.{statement}
@@ -16,14 +15,15 @@ use Rattle.opening.proofs.open.open_with.Tie as tie
 front : (c : tie.Start) → length (take (length (c .args .sealed .now) - 16) (c .args .sealed .now)) ≡ length (c .args .sealed .now) - 16
 front c = length-take-le (length (c .args .sealed .now) - 16) (c .args .sealed .now) (omega arith)
 
-same : (c : tie.After-same) → let a = c .before .before .before .before .before .before .before .before .before .before .before .before .args in c .same .result ≡ agrees (a .suite .cipher) (a .suite .steps) (a .key) (a .nonce .now) (a .header .now) (a .sealed .now)
+same : (c : tie.After-same) → let a = c .before .before .before .before .before .before .before .before .before .before .before .before .args in
+    c .same .result ≡ agrees (a .suite .cipher) (a .suite .steps) (a .key) (a .nonce .now) (a .header .now) (a .sealed .now)
 same c =
     let t = c .before .before .before .before in
     let p = t .before .before .before .before .before .before .before .before in
     let a = p .args in
     c .same .ensures
     ∙ (λ i. sameBytes 16 (t .tag-of .ensures .0 i) (c .before .block-at .ensures i))
-    ∙ agrees-is (a .suite) (a .key) (a .nonce .now) (a .header .now) (a .sealed .now) (p .pre .2)
+    ∙ agrees-is (a .suite) (a .key) (a .nonce .now) (a .header .now) (a .sealed .now) (p .pre .0 .long)
 
 hand-out-requires : tie.Need-hand-out-requires
 hand-out-requires c κs =
@@ -33,19 +33,19 @@ hand-out-requires c κs =
     let x = ciphertext (a .sealed .now) in
     let m = length x in
     let w = a .work .now in
-    let f = deciphers (a .suite) (a .key) in
-    let e = enciphers (a .suite) (a .key) in
-    let T = through f e (a .nonce .now) m 0 (take (min m (length w)) x) in
-    let l : length T ≡ min m (length w) = window-long (a .suite) (a .key) (a .nonce .now) (p .pre .1 .usable .short) x (p .pre .1 .small) (length w) (p .pre .4) in
+    let g = p .pre .0 .text in
+    let part = textPart (a .suite) (a .key) (a .nonce .now) x 0 in
+    let T = part (min m (length w)) in
+    let l : length T ≡ min m (length w) = window-long (a .suite) (a .key) (a .nonce .now) (g .usable .short) x (g .small) (length w) (p .pre .1) in
     let W = t .tag-of .last .1 .1 .1 .1 .1 .0 in
     let kept : length W ≡ length w = ap length (t .tag-of .ensures .1) ∙ work-kept m T w l in (
-      p .pre .1,
-      omega (arith, front p),
-      ap (λ k. k % 16) kept ∙ p .pre .4,
+      g,
+      omega (arith, front p, p .pre .0 .room),
+      ap (λ k. k % 16) kept ∙ p .pre .1,
       ap (λ k. take (min m k) W) kept
           ∙ ap (take (min m (length w))) (t .tag-of .ensures .1)
           ∙ work-front m T w l
-          ∙ ap (λ k. through f e (a .nonce .now) m 0 (take (min m k) x)) (sym kept),
+          ∙ ap (λ k. part (min m k)) (sym kept),
     )
 
 returns : tie.Need-returns
@@ -53,15 +53,18 @@ returns c =
     let h = c .before .before .before .before .before .before .before in
     let p = h .before .before .before .before .before .before .before .before .before .before .before .before in
     let a = p .args in
-    let is = with-tag (a .suite) (a .key) (a .nonce .now) (a .header .now) (a .sealed .now) (a .out .now) (p .pre .1 .usable .short) (sym (same h) ∙ c .before .before .before .before .before .before .if1 .taken) in
-    (is .0, c .before .before .hand-out .ensures ∙ is .1)
+    let is =
+    with-tag (a .suite) (a .key) (a .nonce .now) (a .header .now) (a .sealed .now) (a .out .now) (p .pre .0 .text .usable .short)
+    (sym (same h) ∙ c .before .before .before .before .before .before .if1 .taken) in
+    record { answer = is .answer; output = c .before .before .hand-out .ensures ∙ is .output }
 
 returns-2 : tie.Need-returns-2
 returns-2 c =
     let h = c .before in
     let p = h .before .before .before .before .before .before .before .before .before .before .before .before in
     let a = p .args in
-    without-tag (a .suite) (a .key) (a .nonce .now) (a .header .now) (a .sealed .now) (a .out .now) (p .pre .1 .usable .short) (sym (same h) ∙ c .if1 .left)
+    without-tag (a .suite) (a .key) (a .nonce .now) (a .header .now) (a .sealed .now) (a .out .now) (p .pre .0 .text .usable .short)
+    (sym (same h) ∙ c .if1 .left)
 
 pub open-with-spec : {M : Type 1} → statement M
 open-with-spec =
@@ -69,7 +72,7 @@ open-with-spec =
     (tie.spec
     (λ c. search needs)
     (λ c. sym (front (c .before .before .before .before .before .before)))
-    (λ c κs. let p = c .before .before .before .before .before .before .before in (p .pre .0, p .pre .1, p .pre .4))
+    (λ c κs. let p = c .before .before .before .before .before .before .before in (p .pre .0 .header, p .pre .0 .text, p .pre .1))
     (λ c κs. omega arith)
     (λ c κs. search needs)
     (λ c. sym (front (c .before .before .before .before .before .before .before .before .before .before .before .before .before .before)))

@@ -14,11 +14,15 @@ use Rattle.sealing.proofs.seal.seal.Statement.{statement}
 use Rattle.sealing.proofs.seal.seal.Tie as tie
 
 -- the tests are done
-done : (c : tie.After-enum-told) → let a = c .before .before .before .before .before .before .before .before .args in tests (a .suite) (a .key .now) (a .nonce .now) (a .header .now) (length (a .text .now)) (a .out .now) ≡ Done
+done : (c : tie.After-enum-told) → let a = c .before .before .before .before .before .before .before .before .args in
+    tests (a .suite) (a .key .now) (a .nonce .now) (a .header .now) (length (a .text .now)) (a .out .now) ≡ Done
 done c = sym (c .before .before .seal-tests .ensures) ∙ c .enum-told .given .1
 
-given : (c : tie.After-enum-told) → let a = c .before .before .before .before .before .before .before .before .args in Passed (a .suite) (a .key .now) (a .nonce .now) (a .header .now) (length (a .text .now)) (a .out .now)
-given c = let a = c .before .before .before .before .before .before .before .before .args in passed (a .suite) (a .key .now) (a .nonce .now) (a .header .now) (length (a .text .now)) (a .out .now) (done c)
+given : (c : tie.After-enum-told) → let a = c .before .before .before .before .before .before .before .before .args in
+    Passed (a .suite) (a .key .now) (a .nonce .now) (a .header .now) (length (a .text .now)) (a .out .now)
+given c =
+    let a = c .before .before .before .before .before .before .before .before .args in
+    passed (a .suite) (a .key .now) (a .nonce .now) (a .header .now) (length (a .text .now)) (a .out .now) (done c)
 
 block-at-requires : tie.Need-block-at-requires
 block-at-requires c κs = le-of-eq (sym (given c .whole))
@@ -50,7 +54,7 @@ returns-2 c =
     let key : k .block-at .result ≡ a .key .now = k .block-at .ensures ∙ take-all 16 (a .key .now) (le-of-eq (given e .whole)) in (
       (λ j. Sealed (length (a .text .now) + 16) (c .before .blocks-of .ensures j + c .blocks-of2 .ensures j + 1)) ∙ is .0,
       c .before .before .before .before .write-sealed .ensures
-          ∙ ap (λ (x : List ℕ). sealed (a .suite .cipher) (a .suite .steps) x (a .nonce .now) (a .header .now) t ++ drop (length (a .text .now) + 16) (a .out .now)) key
+          ∙ ap (λ (x : List ℕ). sealed (a .suite .cipher) (a .suite .steps) x (a .nonce .now) (a .header .now) t ++ drop (length t + 16) (a .out .now)) key
           ∙ is .1,
     )
 

@@ -15,11 +15,15 @@ use Rattle.sealing.proofs.seal.seal_in_place.Statement.{statement}
 use Rattle.sealing.proofs.seal.seal_in_place.Tie as tie
 
 -- the tests are done
-done : (c : tie.After-enum-told) → let a = c .before .before .before .before .before .before .before .args in tests (a .suite) (a .key .now) (a .nonce .now) (a .header .now) (a .m) (a .out .now) ≡ Done
+done : (c : tie.After-enum-told) → let a = c .before .before .before .before .before .before .before .args in
+    tests (a .suite) (a .key .now) (a .nonce .now) (a .header .now) (a .m) (a .out .now) ≡ Done
 done c = sym (c .before .before .seal-tests .ensures) ∙ c .enum-told .given .1
 
-given : (c : tie.After-enum-told) → let a = c .before .before .before .before .before .before .before .args in Passed (a .suite) (a .key .now) (a .nonce .now) (a .header .now) (a .m) (a .out .now)
-given c = let a = c .before .before .before .before .before .before .before .args in passed (a .suite) (a .key .now) (a .nonce .now) (a .header .now) (a .m) (a .out .now) (done c)
+given : (c : tie.After-enum-told) → let a = c .before .before .before .before .before .before .before .args in
+    Passed (a .suite) (a .key .now) (a .nonce .now) (a .header .now) (a .m) (a .out .now)
+given c =
+    let a = c .before .before .before .before .before .before .before .args in
+    passed (a .suite) (a .key .now) (a .nonce .now) (a .header .now) (a .m) (a .out .now) (done c)
 
 block-at-requires : tie.Need-block-at-requires
 block-at-requires c κs = le-of-eq (sym (given c .whole))

@@ -28,7 +28,8 @@ returns c =
     let a = p .args in
     let e = enciphers (a .suite) (a .key) in
     let t = take (a .m) (a .out .now) in
-    let tag = g .make .ensures ∙ (λ j. tagFrom e (a .nonce .now) (a .m) ((w .before .before .add-all .ensures ∙ checksum-is t) j) (g .before .sum .ensures j)) in
+    let check = w .before .before .add-all .ensures ∙ checksum-is t in
+    let tag = g .make .ensures ∙ (λ j. tagFrom e (a .nonce .now) (a .m) (check j) (g .before .sum .ensures j)) in
     c .before .before .put-at .ensures
     ∙ (λ j. paste (w .through .ensures j ++ drop (a .m) (a .out .now)) (a .m) (tag j) 16)
     ∙ sealed-written (a .suite) (a .key) (a .nonce .now) (a .header .now) t (p .pre .0 .usable .short) (a .m) (front p) (a .out .now)

@@ -1,18 +1,18 @@
 -- The tests, then the tag.
 use mathlib.Core.Path.{_≡_, sym, ap, _∙_}
-use mathlib.Core.List.{_++_}
+use mathlib.Core.List.{List, _++_}
+use Prim.Native.Nat.{ℕ}
 use native.Mathlib.Nat.{le-of-eq}
 use native.Mathlib.Omega.{arith}
 use borrow.Author.Needs.{needs}
 use lib.ListN.{length}
 use lib.Seq.{take-all}
 use Rattle.suites.specs.declared.refusal.Answer.the-variants.{Done}
-use Rattle.limits.specs.Tests.{verifyTests}
-use Rattle.opening.specs.Open.{opened, agrees, thenTag}
+use Rattle.opening.specs.Open.{opened, byTag}
 use Rattle.opening.proofs.Answers.{Ready}
 use Rattle.verifying.specs.Verify.{verifyReport}
 use Rattle.verifying.proofs.Apart.{apart-tests, apart-passable}
-use Rattle.verifying.proofs.Answers.{verify-refused, verify-ready, verify-done}
+use Rattle.verifying.proofs.Answers.{tests as due, verify-refused, verify-ready, verify-done}
 use Rattle.verifying.proofs.verify.verify_apart.Statement.{statement}
 use Rattle.verifying.proofs.verify.verify_apart.Tie as tie
 
@@ -21,7 +21,7 @@ whole c = omega arith
 
 -- what was tested, of ciphertext and tag side by side
 tests : (c : tie.After-apart-tests) → let a = c .before .before .before .before .before .args in
-    c .apart-tests .result ≡ verifyTests (a .suite .cipher) (a .suite .steps) (length (a .key .now)) (length (a .nonce .now)) (length (a .header .now)) (length (a .c .now ++ a .tag))
+    c .apart-tests .result ≡ due (a .suite) (a .key .now) (a .nonce .now) (a .header .now) (a .c .now ++ a .tag)
 tests c =
     let p = c .before .before .before .before .before in
     let a = p .args in
@@ -29,10 +29,12 @@ tests c =
 
 module _ (c : tie.After-enum-told) where
   -- the tests are done
-  done : let a = c .before .before .before .before .before .before .before .args in verifyTests (a .suite .cipher) (a .suite .steps) (length (a .key .now)) (length (a .nonce .now)) (length (a .header .now)) (length (a .c .now ++ a .tag)) ≡ Done
+  done : let a = c .before .before .before .before .before .before .before .args in
+      due (a .suite) (a .key .now) (a .nonce .now) (a .header .now) (a .c .now ++ a .tag) ≡ Done
   done = sym (tests (c .before .before)) ∙ c .enum-told .given .1
 
-  given : let a = c .before .before .before .before .before .before .before .args in Ready (a .suite) (a .key .now) (a .nonce .now) (a .header .now) (a .c .now ++ a .tag)
+  given : let a = c .before .before .before .before .before .before .before .args in
+      Ready (a .suite) (a .key .now) (a .nonce .now) (a .header .now) (a .c .now ++ a .tag)
   given =
       let a = c .before .before .before .before .before .before .before .args in
       verify-ready (a .suite) (a .key .now) (a .nonce .now) (a .header .now) (a .c .now ++ a .tag) done
@@ -56,8 +58,9 @@ returns-2 c =
     let a = h .before .before .before .before .before .before .before .args in
     let x = a .c .now ++ a .tag in
     let key : k .block-at .result ≡ a .key .now = k .block-at .ensures ∙ take-all 16 (a .key .now) (le-of-eq (given h .whole)) in
+    let text : List ℕ → List ℕ = λ y. opened (a .suite .cipher) (a .suite .steps) y (a .nonce .now) (a .header .now) x in
     c .verify-tested .ensures
-    ∙ ap (λ y. verifyReport (thenTag Done (agrees (a .suite .cipher) (a .suite .steps) y (a .nonce .now) (a .header .now) x)) (opened (a .suite .cipher) (a .suite .steps) y (a .nonce .now) (a .header .now) x)) key
+    ∙ ap (λ y. verifyReport (byTag (a .suite) y (a .nonce .now) (a .header .now) x) (text y)) key
     ∙ verify-done (a .suite) (a .key .now) (a .nonce .now) (a .header .now) x (done h)
 
 pub verify-apart-spec : {M : Type 1} → statement M

@@ -18,31 +18,34 @@ use Rattle.verifying.proofs.verify.verify_tested.Tie as tie
 whole : (c : tie.Start) → length (c .args .tag) ≡ 16
 whole c = omega arith
 
-same : (c : tie.After-same) → let a = c .before .before .before .before .before .before .before .args in c .same .result ≡ agrees (a .suite .cipher) (a .suite .steps) (a .key) (a .nonce .now) (a .header .now) (a .c .now ++ a .tag)
+same : (c : tie.After-same) → let a = c .before .before .before .before .before .before .before .args in
+    c .same .result ≡ agrees (a .suite .cipher) (a .suite .steps) (a .key) (a .nonce .now) (a .header .now) (a .c .now ++ a .tag)
 same c =
     let t = c .before .before in
     let p = t .before .before .before .before .before in
     let a = p .args in
-    c .same .ensures ∙ apart-agrees (a .c .now) (a .tag) (whole p) (a .suite) (a .key) (a .nonce .now) (a .header .now) (t .tag-of .result) (t .tag-of .ensures .0)
+    c .same .ensures
+    ∙ apart-agrees (a .c .now) (a .tag) (whole p) (a .suite) (a .key) (a .nonce .now) (a .header .now) (t .tag-of .result) (t .tag-of .ensures .0)
 
 returns : tie.Need-returns
 returns c =
     let t = c .before .before .before in
     let p = t .before .before .before .before .before in
     let a = p .args in
-    let x = a .c .now ++ a .tag in
-    let byte : (i : ℕ) → i < 1024 → getD (t .tag-of .last .1 .1 .1 .1 .1 .0) i 0 ≡ getD (opened (a .suite .cipher) (a .suite .steps) (a .key) (a .nonce .now) (a .header .now) x) i 0 =
+    let text = opened (a .suite .cipher) (a .suite .steps) (a .key) (a .nonce .now) (a .header .now) (a .c .now ++ a .tag) in
+    let byte : (i : ℕ) → i < 1024 → getD (t .tag-of .last .1 .1 .1 .1 .1 .0) i 0 ≡ getD text i 0 =
     λ i h.
     ap (λ l. getD l i 0) (t .tag-of .ensures .1)
     ∙ window-byte (a .suite) (a .key) (a .nonce .now) (p .pre .1 .usable .short) (a .c .now) (p .pre .1 .small) 1024 refl i h
     ∙ ap (λ l. getD l i 0) (sym (apart-opened (a .c .now) (a .tag) (whole p) (a .suite) (a .key) (a .nonce .now) (a .header .now))) in
     (λ i. Agrees (byte 0 (lit≤ tt) i) (byte 1 (lit≤ tt) i))
-    ∙ ap (λ b. verifyReport (thenTag Done b) (opened (a .suite .cipher) (a .suite .steps) (a .key) (a .nonce .now) (a .header .now) x)) (sym (sym (same (c .before)) ∙ c .if1 .taken))
+    ∙ ap (λ b. verifyReport (thenTag Done b) text) (sym (sym (same (c .before)) ∙ c .if1 .taken))
 
 returns-2 : tie.Need-returns-2
 returns-2 c =
     let a = c .before .before .before .before .before .before .before .before .args in
-    ap (λ b. verifyReport (thenTag Done b) (opened (a .suite .cipher) (a .suite .steps) (a .key) (a .nonce .now) (a .header .now) (a .c .now ++ a .tag))) (sym (sym (same (c .before)) ∙ c .if1 .left))
+    let text = opened (a .suite .cipher) (a .suite .steps) (a .key) (a .nonce .now) (a .header .now) (a .c .now ++ a .tag) in
+    ap (λ b. verifyReport (thenTag Done b) text) (sym (sym (same (c .before)) ∙ c .if1 .left))
 
 pub verify-tested-spec : {M : Type 1} → statement M
 verify-tested-spec =

@@ -7,12 +7,11 @@ use borrow.Author.Needs.{needs}
 use lib.ListN.{length}
 use lib.Seq.{take-all}
 use Rattle.suites.specs.declared.refusal.Answer.the-variants.{Done, Refused}
-use Rattle.limits.specs.Tests.{verifyTests}
-use Rattle.opening.specs.Open.{opened, agrees, thenTag}
+use Rattle.opening.specs.Open.{opened, byTag}
 use Rattle.opening.proofs.Answers.{Ready}
 use Rattle.verifying.specs.Within.{heldIn}
 use Rattle.verifying.proofs.Apart.{apart-tests, apart-passable}
-use Rattle.verifying.proofs.Answers.{verify-outcome, within-buffer, verify-ready}
+use Rattle.verifying.proofs.Answers.{tests as due, verify-outcome, within-buffer, verify-ready}
 use Rattle.verifying.proofs.within.open_within.Statement.{statement}
 use Rattle.verifying.proofs.within.open_within.Tie as tie
 
@@ -21,7 +20,7 @@ whole c = omega arith
 
 -- what was tested, of ciphertext and tag side by side
 tests : (c : tie.After-apart-tests) → let a = c .before .before .before .before .before .before .args in
-    c .apart-tests .result ≡ verifyTests (a .suite .cipher) (a .suite .steps) (length (a .key .now)) (length (a .nonce .now)) (length (a .header .now)) (length (a .c .now ++ a .tag))
+    c .apart-tests .result ≡ due (a .suite) (a .key .now) (a .nonce .now) (a .header .now) (a .c .now ++ a .tag)
 tests c =
     let p = c .before .before .before .before .before .before in
     let a = p .args in
@@ -29,10 +28,12 @@ tests c =
 
 module _ (c : tie.After-enum-told) where
   -- the tests are done
-  done : let a = c .before .before .before .before .before .before .before .before .args in verifyTests (a .suite .cipher) (a .suite .steps) (length (a .key .now)) (length (a .nonce .now)) (length (a .header .now)) (length (a .c .now ++ a .tag)) ≡ Done
+  done : let a = c .before .before .before .before .before .before .before .before .args in
+      due (a .suite) (a .key .now) (a .nonce .now) (a .header .now) (a .c .now ++ a .tag) ≡ Done
   done = sym (tests (c .before .before)) ∙ c .enum-told .given .1
 
-  given : let a = c .before .before .before .before .before .before .before .before .args in Ready (a .suite) (a .key .now) (a .nonce .now) (a .header .now) (a .c .now ++ a .tag)
+  given : let a = c .before .before .before .before .before .before .before .before .args in
+      Ready (a .suite) (a .key .now) (a .nonce .now) (a .header .now) (a .c .now ++ a .tag)
   given =
       let a = c .before .before .before .before .before .before .before .before .args in
       verify-ready (a .suite) (a .key .now) (a .nonce .now) (a .header .now) (a .c .now ++ a .tag) done
@@ -64,7 +65,7 @@ returns-2 c =
     let x = a .c .now ++ a .tag in
     let key : k .block-at .result ≡ a .key .now = k .block-at .ensures ∙ take-all 16 (a .key .now) (le-of-eq (given h .whole)) in (
       t .within-tested .ensures .0
-          ∙ ap (λ y. thenTag Done (agrees (a .suite .cipher) (a .suite .steps) y (a .nonce .now) (a .header .now) x)) key
+          ∙ ap (λ y. byTag (a .suite) y (a .nonce .now) (a .header .now) x) key
           ∙ verify-outcome (a .suite) (a .key .now) (a .nonce .now) (a .header .now) x Done (done h),
       t .within-tested .ensures .1
           ∙ ap (λ y. heldIn Done (opened (a .suite .cipher) (a .suite .steps) y (a .nonce .now) (a .header .now) x) (a .work .now)) key

@@ -17,15 +17,18 @@ whole : (c : tie.Start) → length (c .args .tag) ≡ 16
 whole c = omega arith
 
 module _ (c : tie.After-same) where
-  same : let a = c .before .before .before .before .before .before .before .before .before .args in c .same .result ≡ agrees (a .suite .cipher) (a .suite .steps) (a .key) (a .nonce .now) (a .header .now) (a .c .now ++ a .tag)
+  same : let a = c .before .before .before .before .before .before .before .before .before .args in
+      c .same .result ≡ agrees (a .suite .cipher) (a .suite .steps) (a .key) (a .nonce .now) (a .header .now) (a .c .now ++ a .tag)
   same =
       let t = c .before .before .before in
       let p = t .before .before .before .before .before .before in
       let a = p .args in
-      c .same .ensures ∙ apart-agrees (a .c .now) (a .tag) (whole p) (a .suite) (a .key) (a .nonce .now) (a .header .now) (t .tag-of .result) (t .tag-of .ensures .0)
+      c .same .ensures
+      ∙ apart-agrees (a .c .now) (a .tag) (whole p) (a .suite) (a .key) (a .nonce .now) (a .header .now) (t .tag-of .result) (t .tag-of .ensures .0)
 
   held : let t = c .before .before .before in let a = t .before .before .before .before .before .before .args in
-      t .tag-of .last .1 .1 .1 .1 .1 .0 ≡ heldIn Done (opened (a .suite .cipher) (a .suite .steps) (a .key) (a .nonce .now) (a .header .now) (a .c .now ++ a .tag)) (a .work .now)
+      t .tag-of .last .1 .1 .1 .1 .1 .0
+      ≡ heldIn Done (opened (a .suite .cipher) (a .suite .steps) (a .key) (a .nonce .now) (a .header .now) (a .c .now ++ a .tag)) (a .work .now)
   held =
       let t = c .before .before .before in
       let p = t .before .before .before .before .before .before in
