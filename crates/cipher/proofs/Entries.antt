@@ -1,7 +1,7 @@
 -- Runs of steps under a suite that is listed, and one that is not.
 use mathlib.Core.Path.{_≡_, refl, sym, ap, _∙_}
 use mathlib.Core.List.{List}
-use mathlib.Core.Bool.{Bool, true, false, cond, _&&_, _||_, false≢true}
+use mathlib.Core.Bool.{Bool, true, false, cond, _&&_, _||_, and-eq-true-iff}
 use Prim.Native.Nat.{ℕ, _+_, _≤_}
 use native.Mathlib.Omega.{arith}
 use borrow.Author.Tests.{eqb-true, le-leb}
@@ -24,16 +24,12 @@ use Rattle.cipher.specs.Entry.{enciphered, deciphered, encipheredBlocks,
 listed-steps : (cipher n : ℕ) → listed cipher n ≡ true → n ≤ 14
 listed-steps cipher n e =
     either (eqb cipher 1 && four 6 8 10 12) (eqb cipher 2 && four 8 10 12 14)
-    (λ h. among 6 8 10 12 (lit≤ tt) (lit≤ tt) (lit≤ tt) (lit≤ tt) (second (eqb cipher 1) (four 6 8 10 12) h))
-    (λ h. among 8 10 12 14 (lit≤ tt) (lit≤ tt) (lit≤ tt) (lit≤ tt) (second (eqb cipher 2) (four 8 10 12 14) h))
+    (λ h. among 6 8 10 12 (lit≤ tt) (lit≤ tt) (lit≤ tt) (lit≤ tt) (and-eq-true-iff (eqb cipher 1) (four 6 8 10 12) .0 h .1))
+    (λ h. among 8 10 12 14 (lit≤ tt) (lit≤ tt) (lit≤ tt) (lit≤ tt) (and-eq-true-iff (eqb cipher 2) (four 8 10 12 14) .0 h .1))
     e
   where
     four : ℕ → ℕ → ℕ → ℕ → Bool
     four a b c d = eqb n a || eqb n b || eqb n c || eqb n d
-
-    second : (a b : Bool) → (a && b) ≡ true → b ≡ true
-    second true b h = h
-    second false b h = absurd (false≢true h)
 
     either : (a b : Bool) → (a ≡ true → n ≤ 14) → (b ≡ true → n ≤ 14) → (a || b) ≡ true → n ≤ 14
     either true b f g h = f refl

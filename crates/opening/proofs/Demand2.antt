@@ -1,6 +1,6 @@
 -- Demand 2 holds.
 use mathlib.Core.Path.{_≡_, refl, sym, ap, _∙_}
-use mathlib.Core.Bool.{Bool, true, false, _&&_, false≢true}
+use mathlib.Core.Bool.{Bool, true, false, _&&_, and-eq-true-iff}
 use mathlib.Core.Logic.{_⊎_, inl, inr}
 use mathlib.Core.List.{List, [], _∷_, _++_}
 use Prim.Native.Nat.{ℕ, zero, suc, _+_, _-_, _≤_, _<_}
@@ -36,18 +36,13 @@ use Rattle.opening.proofs.Opened.{opened-long}
 -- strings that are compared byte by byte
 same-all : (n : ℕ) (x y : List ℕ) → sameBytes n x y ≡ true → (i : ℕ) → i < n → getD x i 0 ≡ getD y i 0
 same-all zero x y e i h = absurd (omega arith)
-same-all (suc n) x y e i h = last (ℕ-discrete i n) (λ l. same-all n x y (left (sameBytes n x y) (eqb (getD x n 0) (getD y n 0)) e) i l)
+same-all (suc n) x y e i h = last (ℕ-discrete i n) (λ l. same-all n x y (both .0) i l)
   where
-    left : (a b : Bool) → (a && b) ≡ true → a ≡ true
-    left true b q = refl
-    left false b q = q
-
-    right : (a b : Bool) → (a && b) ≡ true → b ≡ true
-    right true b q = q
-    right false b q = absurd (false≢true q)
+    both : (sameBytes n x y ≡ true) × (eqb (getD x n 0) (getD y n 0) ≡ true)
+    both = and-eq-true-iff (sameBytes n x y) (eqb (getD x n 0) (getD y n 0)) .0 e
 
     last : Dec (i ≡ n) → (i < n → getD x i 0 ≡ getD y i 0) → getD x i 0 ≡ getD y i 0
-    last (yes p) r = rw p (eqb-true (getD x n 0) (getD y n 0) (right (sameBytes n x y) (eqb (getD x n 0) (getD y n 0)) e))
+    last (yes p) r = rw p (eqb-true (getD x n 0) (getD y n 0) (both .1))
     last (no d) r = r (omega arith)
 
 same-equal : (n : ℕ) (x y : List ℕ) → length x ≡ n → length y ≡ n → sameBytes n x y ≡ true → x ≡ y
@@ -73,7 +68,8 @@ module _ (u : Context) (key-bytes : Bytes (u .key)) (nonce-bytes : Bytes (u .non
       let k = enciphers-blockwise S (u .key) in
       let y = through (deciphers S (u .key)) e (u .nonce) (length x) 0 x in
       ap length (openingTag-is e (deciphers S (u .key)) k (u .nonce) short (u .header) (deciphers-blockwise S (u .key)) x)
-      ∙ length-tagFrom e k (u .nonce) short (length x) (checksum y) (headerSum e (u .nonce) (u .header)) (length-checksum y) (length-headerSum e k (u .nonce) short (u .header))
+      ∙ length-tagFrom e k (u .nonce) short (length x) (checksum y) (headerSum e (u .nonce) (u .header)) (length-checksum y)
+      (length-headerSum e k (u .nonce) short (u .header))
 
   pub image-long : length (u .nonce) ≤ 15 → (t : List ℕ) → length (image u t) ≡ length t + 16
   unfolding S sealed
@@ -89,7 +85,11 @@ module _ (u : Context) (key-bytes : Bytes (u .key)) (nonce-bytes : Bytes (u .non
         → (agrees (u .cipher) (u .steps) (u .key) (u .nonce) (u .header) s ≡ true) × (opened (u .cipher) (u .steps) (u .key) (u .nonce) (u .header) s ≡ t)
     unfolding S sealed opened agrees
     image-agrees t bt q =
-        let o = open-sealed (enciphers S (u .key)) (deciphers S (u .key)) (enciphers-blockwise S (u .key)) (deciphers-blockwise S (u .key)) (inverse S (u .key) whole key-bytes) (u .nonce) short nonce-bytes (u .header) s t bt q in
+        let e = enciphers S (u .key) in
+        let d = deciphers S (u .key) in
+        let back = inverse S (u .key) whole key-bytes in
+        let o =
+        open-sealed e d (enciphers-blockwise S (u .key)) (deciphers-blockwise S (u .key)) back (u .nonce) short nonce-bytes (u .header) s t bt q in
         (ap (λ (l : List ℕ). sameBytes 16 l (drop (length s - 16) s)) (o .0) ∙ same-refl 16 (drop (length s - 16) s), o .1)
 
     pub agrees-image : (t : List ℕ) → 16 ≤ length s → Bytes s → agrees (u .cipher) (u .steps) (u .key) (u .nonce) (u .header) s ≡ true
@@ -99,8 +99,11 @@ module _ (u : Context) (key-bytes : Bytes (u .key)) (nonce-bytes : Bytes (u .non
         let e = enciphers S (u .key) in
         let d = deciphers S (u .key) in
         let tag : openingTag e d (u .nonce) (u .header) (ciphertext s) ≡ drop (length s - 16) s =
-        same-equal 16 (openingTag e d (u .nonce) (u .header) (ciphertext s)) (drop (length s - 16) s) (tag-long short (ciphertext s)) (length-drop (length s - 16) s ∙ omega arith) a in
-        open-exact e d (enciphers-blockwise S (u .key)) (deciphers-blockwise S (u .key)) (inverse S (u .key) whole key-bytes) (u .nonce) short nonce-bytes (u .header) s t bs .0 (tag, q)
+        same-equal 16 (openingTag e d (u .nonce) (u .header) (ciphertext s)) (drop (length s - 16) s) (tag-long short (ciphertext s))
+        (length-drop (length s - 16) s ∙ omega arith) a in
+        let back = inverse S (u .key) whole key-bytes in
+        open-exact e d (enciphers-blockwise S (u .key)) (deciphers-blockwise S (u .key)) back (u .nonce) short nonce-bytes (u .header) s t bs
+        .0 (tag, q)
 
   module _ (s out : List ℕ) (openable : Openable u s out) where
     op : openTests (u .cipher) (u .steps) (length (u .key)) (length (u .nonce)) (length (u .header)) (length s) (length out) ≡ Done
@@ -141,7 +144,8 @@ module _ (u : Context) (key-bytes : Bytes (u .key)) (nonce-bytes : Bytes (u .non
         by true e =
             let n : length s - 16 ≡ length t = ap (λ (r : Told). getD (r .values) 0 0) (ap openTold (answer true e) ∙ a) in
             let both : text ++ drop (length text) out ≡ t ++ drop (length t) out = buffer true e ∙ b in
-            (e, sym (take-at text (drop (length text) out) (length t) (text-long ∙ n)) ∙ ap (take (length t)) both ∙ take-at t (drop (length t) out) (length t) refl)
+            let first : take (length t) (text ++ drop (length text) out) ≡ text = take-at text (drop (length text) out) (length t) (text-long ∙ n) in
+            (e, sym first ∙ ap (take (length t)) both ∙ take-at t (drop (length t) out) (length t) refl)
         by false e =
             let z : _≡_ {A = ℕ} 8 0 = ap (λ (r : Told). r .number) (ap openTold (answer false e) ∙ a) in
             absurd (omega arith)
@@ -176,12 +180,22 @@ module _ (u : Context) (key-bytes : Bytes (u .key)) (nonce-bytes : Bytes (u .non
       let m : length (image u t) - 16 ≡ length t = omega arith in
       ap (λ (a : Answer). told a .number)
       (open-passes (u .cipher) (u .steps) (length (u .key)) (length (u .nonce)) (length (u .header)) (length (image u t)) (length room)
-      (record { suite = q .suite; key = q .key; nonce = q .nonce; short = q .short; header = q .header; long = omega arith; text = rw m (q .text); room = omega arith }))
+      (record {
+        suite = q .suite;
+        key = q .key;
+        nonce = q .nonce;
+        short = q .short;
+        header = q .header;
+        long = omega arith;
+        text = rw m (q .text);
+        room = omega arith;
+      }))
 
   seal-short : (t out : List ℕ) → Sealable u t out → length (u .nonce) ≤ 15
   unfolding sealOutcome
   seal-short t out sealable =
-      seal-passed (u .cipher) (u .steps) (length (u .key)) (length (u .nonce)) (length (u .header)) (length t) (length out) (sealable-done t out sealable) .short
+      let done = sealable-done t out sealable in
+      seal-passed (u .cipher) (u .steps) (length (u .key)) (length (u .nonce)) (length (u .header)) (length t) (length out) done .short
 
   image-made : (t out : List ℕ) → Sealable u t out
       → (sealTells u t out ≡ gives ((length t + 16) ∷ length (calls (u .nonce) (u .header) t) ∷ []))
