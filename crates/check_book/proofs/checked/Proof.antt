@@ -1,8 +1,8 @@
 -- A key that is too short stands alone; else it is the first 16 bytes.
-use mathlib.Core.Path.{_≡_, sym, ap, _∙_}
+use mathlib.Core.Path.{sym, ap, _∙_}
 use native.Mathlib.Omega.{arith}
 use borrow.Author.Needs.{needs}
-use lib.ListN.{length, take, drop, drop-of-length-le}
+use lib.ListN.{take, drop-of-length-le}
 use lib.Seq.{take-all, length-take-le}
 use Rattle.checker.specs.Check.{checkAnswer}
 use Rattle.sums.proofs.Sums.{part-rest}

@@ -14,7 +14,10 @@ returns c = rw (lt-leb (length (c .before .before .before .before .before .args 
 
 returns-2 : tie.Need-returns-2
 unfolding line
-returns-2 c = rw (le-leb (length (c .before .before .before .before .before .args .input .now)) 65520 (omega arith), ← (c .before .before .checked .ensures)) (c .answer-line .ensures)
+returns-2 c =
+    rw
+    (le-leb (length (c .before .before .before .before .before .args .input .now)) 65520 (omega arith), ← (c .before .before .checked .ensures))
+    (c .answer-line .ensures)
 
 pub line-spec : {M : Type 1} → statement M
 line-spec =

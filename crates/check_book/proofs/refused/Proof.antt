@@ -16,7 +16,9 @@ returns c =
     let k = b .before .before in
     let a = k .before .before .before in
     let h = a .before .before .before .before .args in
-    subst (λ (n : ℕ). Written (ascii "refused " ++ digits n ++ ascii "\n") (h .out .now) (e .put-text2 .last .1 .0) (e .put-text2 .result)) (k .number .ensures)
+    subst
+    (λ (n : ℕ). Written (ascii "refused " ++ digits n ++ ascii "\n") (h .out .now) (e .put-text2 .last .1 .0) (e .put-text2 .result))
+    (k .number .ensures)
     (then (then (first (a .put-text .ensures)) (b .put-number .ensures .0)) (e .put-text2 .ensures))
 
 pub refused-spec : {M : Type 1} → statement M

@@ -5,7 +5,7 @@ use native.Mathlib.Omega.{arith}
 use borrow.Author.Needs.{needs}
 use borrow.Fn.Kinds.{In}
 use borrow.Fn.PlainCycle.{Measures, is, falls, and}
-use lib.ListN.{length, set, length-set}
+use lib.ListN.{length, length-set}
 use Rattle.decimal.specs.Decimal.{digits, Written}
 use Rattle.decimal.proofs.Digits.{length-more, digits-some, digits-u64}
 use Rattle.decimal.proofs.Written.{written-long, digit-alone, digit-behind}
