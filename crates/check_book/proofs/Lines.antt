@@ -1,4 +1,4 @@
--- Strings put one behind the other, and the lengths of the lines.
+-- Strings put one behind the other, and laws of the lines.
 use mathlib.Core.Path.{_≡_, refl, sym, ap, _∙_}
 use mathlib.Core.Bool.{Bool, true, false, cond}
 use mathlib.Core.List.{List, _++_, append-assoc, append-nil}
@@ -56,7 +56,7 @@ then {p} {s} {d} {x} {e} {at} w b =
 pub within : {s d e : List ℕ} {r : ℕ} → Written s d e r → r ≤ length e
 within {s} {d} w = omega (arith, w .count, ap length (w .bytes) ∙ length-append s (drop (length s) d))
 
--- lines
+-- the lines that the scope states
 
 pub line-ok : answerLine (Accepted 1 7) ≡ ascii "ok units=1 calls=7\n"
 unfolding digits digitsIn
@@ -77,7 +77,7 @@ abbrev Fit : CheckAnswer → Type 0
 Fit (Accepted units calls) = (units < 2 ^ 64) × (calls < 2 ^ 64)
 Fit (Refused why) = number why < 2 ^ 64
 
--- so a line has at most 57 bytes
+-- then a line has at most 57 bytes
 pub line-length : (input : List ℕ) → Fit (checkAnswer (take 16 input) (drop 16 input)) → length (line input) ≤ 57
 unfolding line
 line-length input fit = by (leb (length input) 65520)

@@ -1,4 +1,4 @@
--- What is put behind the bytes before a place.
+-- What is put at a place.
 use mathlib.Core.Path.{_≡_}
 use mathlib.Core.List.{List, _++_}
 use Prim.Native.Nat.{ℕ, _+_}

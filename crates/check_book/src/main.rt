@@ -12,7 +12,7 @@ ghost use Rattle.checker.specs.declared.check.CheckAnswer.the-variants.{Accepte
 ghost use Rattle.check_book.specs.Line.{answerLine, line};
 ghost use Rattle.check_book.specs.Behind.{Behind};
 
-// Bytes put behind those before a place: the place behind them.
+// Bytes put at a place of an output: the place behind them.
 fn put_text(s: &[u8], out: &mut [u8], at: usize) -> usize
     requires { ⌜ at + length (now s) ≤ length (now out) ⌝ }
     ensures { λ r. ⌜ Behind at (now (s .entry)) (now (out .entry)) (now (out .exit)) r ⌝ }
@@ -30,6 +30,7 @@ fn put_number(n: u64, out: &mut [u8], at: usize) -> usize
     at + decimal::put(n, &mut out[at..])
 }
 
+// The line of a book that is accepted, at the start of an output that has room for it: its length.
 fn accepted(units: u64, calls: u64, out: &mut [u8]) -> usize
     requires { ⌜ 64 ≤ length (now out) ⌝ }
     ensures { λ r. ⌜ Written (answerLine (Accepted units calls)) (now (out .entry)) (now (out .exit)) r ⌝ }
@@ -41,6 +42,7 @@ fn accepted(units: u64, calls: u64, out: &mut [u8]) -> usize
     put_text(b"\n", out, d)
 }
 
+// The line of a refusal.
 fn refused(why: Refusal, out: &mut [u8]) -> usize
     requires { ⌜ 64 ≤ length (now out) ⌝ }
     ensures { λ r. ⌜ Written (answerLine (Refused why)) (now (out .entry)) (now (out .exit)) r ⌝ }
@@ -50,6 +52,7 @@ fn refused(why: Refusal, out: &mut [u8]) -> usize
     put_text(b"\n", out, b)
 }
 
+// The line of either answer.
 fn answer_line(answer: CheckAnswer, out: &mut [u8]) -> usize
     requires { ⌜ 64 ≤ length (now out) ⌝ }
     ensures { λ r. ⌜ Written (answerLine answer) (now (out .entry)) (now (out .exit)) r ⌝ }

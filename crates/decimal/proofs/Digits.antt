@@ -1,4 +1,4 @@
--- Laws of decimal digits: each is a digit, the first is no zero, they say the number, and how many there are. These leave no other string.
+-- Laws of decimal digits: how many there are, what they say, what each is, and that no zero stands first.
 use mathlib.Core.Path.{_≡_, refl, ap, _∙_}
 use mathlib.Core.Bool.{Bool, true, false}
 use mathlib.Core.List.{List, [], _∷_, _++_}

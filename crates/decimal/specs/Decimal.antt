@@ -15,10 +15,11 @@ unfoldable pub digitsIn : ℕ → ℕ → List ℕ
 digitsIn zero n = []
 digitsIn (suc k) n = cond (ltb n 10) [] (digitsIn k (n / 10)) ++ lastDigit n ∷ []
 
--- the decimal digits of a number, the highest first and no zero before them; 0 is `0`. A number n has at most n + 1
+-- the decimal digits of a number, the highest first, with no zero before them; 0 is `0`. A number n has at most n + 1
 unfoldable pub digits : ℕ → List ℕ
 digits n = digitsIn (suc n) n
 
+-- a byte from `0` to `9`
 pub record Digit (b : ℕ) : Type 0 where
   pub low : 0x30 ≤ b
   pub high : b ≤ 0x39
@@ -28,7 +29,7 @@ unfoldable pub valueOf : List ℕ → ℕ
 valueOf [] = 0
 valueOf (b ∷ s) = (b - 0x30) * 10 ^ length s + valueOf s
 
--- what is written of n where there is room for so many bytes: its digits, or nothing where these are more
+-- what is written of a number where there is room for so many bytes: its digits, or nothing where these are more
 unfoldable pub digitsWithin : ℕ → ℕ → List ℕ
 digitsWithin room n = cond (leb (length (digits n)) room) (digits n) []
 
