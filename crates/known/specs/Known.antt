@@ -1,18 +1,18 @@
--- The known values that the prover checks: one list, each as the definitions compute it beside
--- what the scope states.
+-- The known values that the prover checks: one list, each as the definitions compute it beside what the scope states.
 use mathlib.Core.Path.{_≡_}
 use mathlib.Core.List.{List, [], _∷_}
 use Prim.Native.Nat.{ℕ}
-use lib.ListN.{length, getD, replicate}
+use lib.ListN.{length, getD, take, drop, replicate}
 use Rattle.sbox.specs.Sbox
 use Rattle.lbox.specs.Lbox
 use Rattle.calls.specs.Calls.{calls}
 use Rattle.calls.specs.Tweak.{textTweak, headerTweak}
 use Rattle.suites.specs.declared.suite.Suite.{Suite}
 use Rattle.fields.specs.Kind.{kind10}
-use Rattle.format.specs.Layout.{bookLength}
-use Rattle.format.specs.Sealings.{openingFields, unitHeader, unitSealing, closeSealing, cipherCalls}
-use Rattle.fields.specs.Unit.{BookUnit, unitOf, detailsOf}
+use Rattle.format.specs.Layout.{bookBytes}
+use Rattle.format.specs.Sealings.{Sealing, cipherCalls}
+use Rattle.fields.specs.Unit.{BookUnit, unitOf}
+use Rattle.checker.specs.Exact.{bookSealings}
 use Rattle.rounds.specs.Tweakey.{φ, rotatedRow}
 
 pub record Value : Type 0 where
@@ -23,7 +23,7 @@ pub record Value : Type 0 where
 abbrev is : ℕ → ℕ → Value
 is a b = record { computed = a ∷ []; stated = b ∷ [] }
 
--- a state that is known
+-- a string or a state that is known
 abbrev are : List ℕ → List ℕ → Value
 are a b = record { computed = a; stated = b }
 
@@ -36,12 +36,24 @@ abbrev callsFor : ℕ → ℕ → ℕ
 callsFor a m = length (calls (0 ∷ []) (replicate a 0) (replicate m 0))
 
 -- Scream with 10 steps
-abbrev scream10 : Suite
+abbrev pub scream10 : Suite
 scream10 = record { cipher = 1; steps = 10 }
 
--- a unit from en to de with a source of 5 bytes and a target of 6
-abbrev enToDe : BookUnit
-enToDe = unitOf (0x65 ∷ 0x6E ∷ []) (0x64 ∷ 0x65 ∷ []) (replicate 5 0) (replicate 6 0)
+-- value 8's book: its key, number and units, one from en to de with a source of 5 bytes and a target of 6; its bytes, and its sealings
+abbrev pub key8 : List ℕ
+key8 = replicate 16 0
+
+abbrev pub number8 : ℕ
+number8 = 7
+
+abbrev pub units8 : List BookUnit
+units8 = unitOf (0x65 ∷ 0x6E ∷ []) (0x64 ∷ 0x65 ∷ []) (replicate 5 0) (replicate 6 0) ∷ []
+
+abbrev pub book8 : List ℕ
+book8 = bookBytes kind10 scream10 key8 number8 units8
+
+abbrev sealings8 : List Sealing
+sealings8 = bookSealings kind10 scream10 number8 units8
 
 unfoldable pub known : List Value
 known =
@@ -70,12 +82,13 @@ known =
     is (callsFor 17 17) 5 ∷
     is (callsFor 25 13) 4 ∷
     -- 8: "Book 7, Scream 10 steps, opens 01 00 08 00 00 00 00 00 00 00 07 02 00 02 01 0A"
-    are (openingFields scream10 7) (0x01 ∷ 0x00 ∷ 0x08 ∷ 0x00 ∷ 0x00 ∷ 0x00 ∷ 0x00 ∷ 0x00 ∷ 0x00 ∷ 0x00 ∷ 0x07 ∷ 0x02 ∷ 0x00 ∷ 0x02 ∷ 0x01 ∷ 0x0A ∷ []) ∷
+    are (take 16 book8)
+    (0x01 ∷ 0x00 ∷ 0x08 ∷ 0x00 ∷ 0x00 ∷ 0x00 ∷ 0x00 ∷ 0x00 ∷ 0x00 ∷ 0x00 ∷ 0x07 ∷ 0x02 ∷ 0x00 ∷ 0x02 ∷ 0x01 ∷ 0x0A ∷ []) ∷
     -- "unit 0, en to de, goes on 10 00 06 00 00 65 6E 64 65"
-    are (unitHeader kind10 0 (detailsOf kind10 enToDe)) (0x10 ∷ 0x00 ∷ 0x06 ∷ 0x00 ∷ 0x00 ∷ 0x65 ∷ 0x6E ∷ 0x64 ∷ 0x65 ∷ []) ∷
-    -- "with s 5, t 6 and a close it has 84 bytes, 7 calls": the sum of the lengths, and the call lists themselves
-    is (bookLength kind10 (enToDe ∷ [])) 84 ∷
-    is (length (cipherCalls (unitSealing kind10 scream10 7 0 enToDe ∷ closeSealing kind10 scream10 7 1 ∷ []))) 7 ∷
+    are (take 9 (drop 16 book8)) (0x10 ∷ 0x00 ∷ 0x06 ∷ 0x00 ∷ 0x00 ∷ 0x65 ∷ 0x6E ∷ 0x64 ∷ 0x65 ∷ []) ∷
+    -- "with s 5, t 6 and a close it has 84 bytes, 7 calls"
+    is (length book8) 84 ∷
+    is (length (cipherCalls sealings8)) 7 ∷
     []
 
 -- each value of a list is computed as it is stated
