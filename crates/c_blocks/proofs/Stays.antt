@@ -3,7 +3,6 @@ use mathlib.Core.Path.{_≡_, refl}
 use mathlib.Core.Bool.{Bool, true, false, cond}
 use mathlib.Core.List.{List}
 use Prim.Native.Nat.{ℕ}
-use Rattle.suites.specs.declared.refusal.Answer.{Answer}
 use Rattle.suites.specs.declared.refusal.Answer.the-variants.{Done, Refused}
 use Rattle.suites.specs.declared.refusal.Refusal.{Refusal}
 

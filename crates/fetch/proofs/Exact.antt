@@ -1,7 +1,7 @@
 -- Fetch and the ciphertext call give exactly the units of every book of the layout, and 16 past them.
 use mathlib.Core.Path.{_≡_, sym, ap, _∙_}
 use mathlib.Core.List.{List, [], _∷_, _++_}
-use Prim.Native.Nat.{ℕ, _+_, _^_, _≤_, _<_, min}
+use Prim.Native.Nat.{ℕ, _+_, _^_, _≤_, _<_}
 use native.Mathlib.Nat.{zero-add}
 use native.Mathlib.Omega.{arith}
 use lib.ListN.{length, take, drop, length-append}
@@ -26,13 +26,13 @@ use Rattle.kinds.proofs.Formed.{formed}
 use Rattle.parser.specs.declared.frame.Frame.the-variants.{Unit, Close}
 use Rattle.parser.specs.Frame.{mostUnits, frameAt}
 use Rattle.parser.proofs.Frames.{readable}
-use Rattle.parser.proofs.Openings.{opening-here}
+use Rattle.parser.specs.Opening.{afterOpening}
 use Rattle.checker.proofs.BookKinds.{own-kind, unit-kind}
 use Rattle.walk.specs.declared.clear.Clear.{Clear}
 use Rattle.walk.specs.declared.ciphertext.Part.{Part}
 use Rattle.walk.specs.Walk.{walkTo}
 use Rattle.walk.specs.Ciphertext.{ciphertextPlace, ciphertextPart}
-use Rattle.walk.specs.Clear.{codeOf, noClear, clearOf, clearUnless, placedClearOf, placedClear, unitClearOf, unitClear}
+use Rattle.walk.specs.Clear.{codeOf, noClear, clearOf, placedClearOf, placedClear, unitClearOf, unitClear}
 use Rattle.walk.proofs.Places.{clear-part}
 use Rattle.fetch.specs.declared.unit.FetchAnswer.{FetchAnswer}
 use Rattle.fetch.specs.declared.unit.FetchAnswer.the-variants.{Fetched, Refused as FetchRefused}
@@ -204,21 +204,16 @@ module _ (q : BookKind) (suite : Suite) (key : List ℕ) (number : ℕ) where
           placed = placed-clear ∙ says;
         })
 
-    -- fetch by its place
-    opened : min (length x) 16 ≡ 16
-    opened = omega (arith, length-append (openingFields suite number) (units ++ z), length-openingFields suite number)
-
-    reached : walkTo kind n (drop (min (length x) 16) x) ≡ endPlace kind suite key number before
-    reached =
-        ap (walkTo kind n)
-        (ap (λ (a : ℕ). drop a x) opened ∙ drop-at (openingFields suite number) (units ++ z) 16 (length-openingFields suite number))
-        ∙ ends
+    -- fetch by its place: the walk ends there
+    reached : walkTo kind n (afterOpening x) ≡ endPlace kind suite key number before
+    unfolding afterOpening
+    reached = ap (walkTo kind n) (drop-at (openingFields suite number) (units ++ z) 16 (length-openingFields suite number)) ∙ ends
 
     -- the next unit, from where the walk ends
-    next-there : let p = walkTo kind n (drop (min (length x) 16) x) in let at = min (length x) 16 + p .at in
-        nextOf kind at (frameAt kind (p .number) (drop at x)) ≡ placeBehind (kindOf q) suite key number (before ++ u ∷ [])
+    next-there : let p = walkTo kind n (afterOpening x) in
+        nextOf kind (16 + p .at) (frameAt kind (p .number) (drop (16 + p .at) x)) ≡ placeBehind (kindOf q) suite key number (before ++ u ∷ [])
     next-there =
-        (λ i. nextOf kind (opened i + reached i .at) (frameAt kind (reached i .number) (drop (opened i + reached i .at) x)))
+        (λ i. nextOf kind (16 + reached i .at) (frameAt kind (reached i .number) (drop (16 + reached i .at) x)))
         ∙ ap (λ (y : List ℕ). nextOf kind (16 + length units) (frameAt kind n y)) there
         ∙ ap (nextOf kind (16 + length units)) framed
         ∙ next-is
@@ -231,7 +226,7 @@ module _ (q : BookKind) (suite : Suite) (key : List ℕ) (number : ℕ) where
     placed-is out a e =
         ap placedTold
         (ap (λ (p : BookKind). placedAnswerOf (kindOf p) key x n (16 + length units) out) own
-        ∙ sym (λ i. placedAnswerOf kind key x (reached i .number) (opened i + reached i .at) out)
+        ∙ sym (λ i. placedAnswerOf kind key x (reached i .number) (16 + reached i .at) out)
         ∙ fetch-placed kind key x n out .0
         ∙ (λ i. withNext (fetchAnswerOf (kindOf (sym own i)) key x n out) (next-there i))
         ∙ ap (λ (r : FetchAnswer). withNext r (placeBehind (kindOf q) suite key number (before ++ u ∷ []))) e)
@@ -246,7 +241,7 @@ module _ (q : BookKind) (suite : Suite) (key : List ℕ) (number : ℕ) where
           short = λ out h. placed-is out (FetchRefused OutputTooShort) (too-short key x n u small outcome-is text-is out h .0);
           output = λ out.
               ap (λ (p : BookKind). placedBufferOf (kindOf p) key x n (16 + length units) out) own
-              ∙ sym (λ i. placedBufferOf kind key x (reached i .number) (opened i + reached i .at) out)
+              ∙ sym (λ i. placedBufferOf kind key x (reached i .number) (16 + reached i .at) out)
               ∙ fetch-placed kind key x n out .1
               ∙ ap (λ (p : BookKind). fetchBufferOf (kindOf p) key x n out) (sym own);
         })

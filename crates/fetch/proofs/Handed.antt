@@ -2,27 +2,25 @@
 use mathlib.Core.Path.{_≡_, refl, sym, ap, _∙_}
 use mathlib.Core.Bool.{true, false}
 use mathlib.Core.List.{List, [], _++_}
-use Prim.Native.Nat.{ℕ, _+_, _-_, _≤_, _<_, min}
+use Prim.Native.Nat.{ℕ, _+_, _-_, _≤_, _<_}
 use native.Mathlib.Omega.{arith}
 use borrow.Author.Tests.{le-leb, lt-leb}
-use lib.Dec.{eqb, leb}
+use lib.Dec.{leb}
 use lib.ListN.{length, drop, length-append, length-drop, take-append-drop}
 use lib.Seq.{drop-drop}
 use Rattle.suites.specs.declared.refusal.Answer.{Answer}
 use Rattle.suites.specs.declared.refusal.Answer.the-variants.{Done, Refused}
 use Rattle.suites.specs.declared.refusal.Refusal.{Refusal}
-use Rattle.suites.specs.declared.refusal.Refusal.the-variants.{KeyLength, OutputTooShort, SegmentLength, NoSuchUnit}
+use Rattle.suites.specs.declared.refusal.Refusal.the-variants.{OutputTooShort, SegmentLength, NoSuchUnit}
 use Rattle.limits.specs.Tests.{unless}
-use Rattle.limits.proofs.Passed.{unless-passed}
 use Rattle.sealing.specs.Seal.{written}
 use Rattle.fields.specs.Kind.{Kind}
 use Rattle.fields.specs.Unit.{sourceLength, sourceOf, targetOf, textInRange}
 use Rattle.fields.proofs.Texts.{length-sourceOf, length-targetOf}
 use Rattle.parser.specs.declared.frame.Frame.{Frame}
 use Rattle.parser.specs.Frame.{frameAt}
-use Rattle.parser.specs.Opening.{openingBytes, openingTests, afterOpening, checkTests}
+use Rattle.parser.specs.Opening.{openingBytes, afterOpening, checkTests}
 use Rattle.seals.specs.Seal.{unitOpened}
-use Rattle.parser.proofs.Openings.{opening-passed}
 use Rattle.walk.specs.declared.Place.{Place}
 use Rattle.fetch.specs.declared.unit.FetchAnswer.{FetchAnswer}
 use Rattle.fetch.specs.declared.unit.FetchAnswer.the-variants.{Fetched, Refused as FetchRefused}
@@ -138,51 +136,43 @@ module _ (kind : Kind) (key s : List ℕ) (n at : ℕ) (out : List ℕ) {r : Pla
   tests-hand a e h =
       next-same out (ap (λ b. andThen b (outcomeHere kind key (openingBytes s) n (drop at s) (length out))) (sym e)) refl refl h
 
--- what follows tests matters only where they are done
-report-after : (a x y : Answer) (t u : List ℕ) (next : ℕ) → (a ≡ Done → (x ≡ y) × (t ≡ u))
-    → placedReport (andThen a x) t next ≡ withNext (fetchReport (andThen a y) u) next
-report-after Done x y t u next h = let e = h refl in (λ i. placedReport (e .0 i) (e .1 i) next) ∙ sym (report-next y u next)
-report-after (Refused why) x y t u next h = refl
+-- without that place
+report-without : (a : Answer) (t : List ℕ) (next : ℕ) → withoutNext (placedReport a t next) ≡ fetchReport a t
+report-without Done t next = refl
+report-without (Refused why) t next = refl
 
-left-after : (a x y : Answer) (t u out : List ℕ) → (a ≡ Done → (x ≡ y) × (t ≡ u)) → written (andThen a x) (handedOut t) out ≡ written (andThen a y) (handedOut u) out
-left-after Done x y t u out h = let e = h refl in λ i. written (e .0 i) (handedOut (e .1 i)) out
-left-after (Refused why) x y t u out h = refl
+pub hands-without : (a : Answer) (t out : List ℕ) {r : PlacedAnswer} {left : List ℕ} {q : FetchAnswer} (next : ℕ) → HandsNext a t next out r left
+    → q ≡ withoutNext r → Hands a t out q left
+hands-without a t out next h e = (e ∙ ap withoutNext (h .0) ∙ report-without a t next, h .1)
 
-pub without-with : (r : FetchAnswer) (next : ℕ) → withoutNext (withNext r next) ≡ r
-without-with (Fetched s t) next = refl
-without-with (FetchRefused why) next = refl
-
--- the walk begins behind the opening fields, or at the end of a book that has none; fetch gives what stands where it ends
-module _ (kind : Kind) (key s : List ℕ) (k : ℕ) (out : List ℕ) where
-  abbrev from : ℕ
-  from = min (length s) 16
-
+-- the walk to unit k begins behind the opening fields; fetch gives what stands where it ends
+module _ (kind : Kind) (key s : List ℕ) (k : ℕ) where
   abbrev pub endsAt : Place
-  endsAt = walkTo kind k (drop from s)
+  endsAt = walkTo kind k (afterOpening s)
 
-  -- where the tests are done, the opening fields are there
-  behind : checkTests (length key) s ≡ Done → drop from s ≡ afterOpening s
-  unfolding checkTests afterOpening
-  behind done =
-      let long = opening-passed s (unless-passed (eqb (length key) 16) KeyLength (openingTests s) done .1) .1 in
-      let whole : from ≡ 16 = omega arith in
-      ap (λ (a : ℕ). drop a s) whole
+  pub there : drop (16 + endsAt .at) s ≡ drop (endsAt .at) (afterOpening s)
+  unfolding afterOpening
+  there = sym (drop-drop (endsAt .at) 16 s)
 
-  there : checkTests (length key) s ≡ Done → drop (from + endsAt .at) s ≡ drop (walkTo kind k (afterOpening s) .at) (afterOpening s)
-  there done = sym (drop-drop (endsAt .at) from s) ∙ (λ i. drop (walkTo kind k (behind done i) .at) (behind done i))
+  module _ (out : List ℕ) where
+    -- by the tests before the walk
+    pub tests-fetch : {r : FetchAnswer} {left : List ℕ} (a : Answer) → checkTests (length key) s ≡ a
+        → Hands (andThen a (outcomeFrom kind key endsAt s (length out))) (textFrom kind key endsAt s) out r left
+        → (r ≡ fetchAnswerOf kind key s k out) × (left ≡ fetchBufferOf kind key s k out)
+    unfolding fetchAnswerOf fetchBufferOf fetchOutcome fetchText
+    tests-fetch a e h = hands-same out (ap (λ b. andThen b (outcomeFrom kind key endsAt s (length out))) (sym e)) refl h
 
-  same : checkTests (length key) s ≡ Done
-      → (outcomeHere kind key (openingBytes s) (endsAt .number) (drop (from + endsAt .at) s) (length out)
-      ≡ outcomeFrom kind key (walkTo kind k (afterOpening s)) s (length out))
-      × (textAt kind key (openingBytes s) (endsAt .number) (drop (from + endsAt .at) s) ≡ textFrom kind key (walkTo kind k (afterOpening s)) s)
-  same done = (
-    λ i. outcomeHere kind key (openingBytes s) (walkTo kind k (behind done i) .number) (there done i) (length out),
-    λ i. textAt kind key (openingBytes s) (walkTo kind k (behind done i) .number) (there done i),
-  )
-
-  -- with the place of what stands behind it
-  pub fetch-placed : let next = nextOf kind (from + endsAt .at) (frameAt kind (endsAt .number) (drop (from + endsAt .at) s)) in
-      (placedAnswerOf kind key s (endsAt .number) (from + endsAt .at) out ≡ withNext (fetchAnswerOf kind key s k out) next)
-      × (placedBufferOf kind key s (endsAt .number) (from + endsAt .at) out ≡ fetchBufferOf kind key s k out)
-  unfolding placedAnswerOf placedBufferOf placedOutcome placedText fetchAnswerOf fetchBufferOf fetchOutcome fetchText
-  fetch-placed = (report-after (checkTests (length key) s) _ _ _ _ _ same, left-after (checkTests (length key) s) _ _ _ _ out same)
+    -- the same as at the place where the walk ends, without the next one
+    pub fetch-placed : let next = nextOf kind (16 + endsAt .at) (frameAt kind (endsAt .number) (drop (16 + endsAt .at) s)) in
+        (placedAnswerOf kind key s (endsAt .number) (16 + endsAt .at) out ≡ withNext (fetchAnswerOf kind key s k out) next)
+        × (placedBufferOf kind key s (endsAt .number) (16 + endsAt .at) out ≡ fetchBufferOf kind key s k out)
+    unfolding placedAnswerOf placedBufferOf placedOutcome placedText fetchAnswerOf fetchBufferOf fetchOutcome fetchText
+    fetch-placed =
+        let next = nextOf kind (16 + endsAt .at) (frameAt kind (endsAt .number) (drop (16 + endsAt .at) s)) in
+        let tests = checkTests (length key) s in
+        let outcome : List ℕ → Answer = λ y. andThen tests (outcomeHere kind key (openingBytes s) (endsAt .number) y (length out)) in
+        let text : List ℕ → List ℕ = λ y. textAt kind key (openingBytes s) (endsAt .number) y in (
+          (λ i. placedReport (outcome (there i)) (text (there i)) next)
+              ∙ sym (report-next (andThen tests (outcomeFrom kind key endsAt s (length out))) (textFrom kind key endsAt s) next),
+          λ i. written (outcome (there i)) (handedOut (text (there i))) out,
+        )
