@@ -95,7 +95,7 @@ module _ (kind : Kind) (suite : Suite) (key : List ℕ) (number : ℕ) where
         few = omega arith;
       }
 
-  from-unit : (n total m : ℕ) (s : List ℕ) (c t : ℕ) → UnitRead kind suite key number n m s
+  from-unit : (n total m : ℕ) (s : List ℕ) (c t : ℕ) {text : List ℕ} → UnitRead kind suite key number n m s text
       → Accepts (suc n) (total + unitCalls kind m) (afterUnit kind m s) c t → Accepts n total s c t
   from-unit n total m s c t r w =
       let u = r .unit in

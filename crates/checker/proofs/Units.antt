@@ -69,10 +69,11 @@ module _ (kind : Kind) (s : List ℕ) (b : Bytes s) where
       let d = frameDetails kind s in
       bytes-take (kind .codeBytes) (drop (kind .codeBytes) d) (bytes-drop (kind .codeBytes) d bytes-details)
 
--- what is told of such a unit
-pub record UnitRead (kind : Kind) (suite : Suite) (key : List ℕ) (number n m : ℕ) (s : List ℕ) : Type 0 where
+-- what is told of such a unit, which opens to the text t
+pub record UnitRead (kind : Kind) (suite : Suite) (key : List ℕ) (number n m : ℕ) (s t : List ℕ) : Type 0 where
   pub unit : BookUnit
   pub allowed : Allowed kind n unit
+  pub opened : unitText (unit .source) (unit .target) ≡ t
   pub text : length (unitText (unit .source) (unit .target)) ≡ m
   pub bytes : s ≡ unitBytes kind suite key number n unit ++ afterUnit kind m s
   pub rest : Bytes (afterUnit kind m s)
@@ -129,13 +130,14 @@ module _ (kind : Kind) (key o : List ℕ) (held : o ≡ openingFields (openingSu
           ∙ ap (λ (h : List ℕ). sealedAt suite key number n h t) (sym along)
           ∙ image
 
-      u-read : UnitRead kind suite key number n m s
+      u-read : UnitRead kind suite key number n m s t
       unfolding unitBytes
       u-read =
           let m-is : length (unitText (sourceOf t) (targetOf t)) ≡ m = ap length u-text ∙ long-t in
           record {
             unit = u;
             allowed = u-allowed;
+            opened = u-text;
             text = m-is;
             bytes =
                 told .written b
@@ -145,7 +147,7 @@ module _ (kind : Kind) (key o : List ℕ) (held : o ≡ openingFields (openingSu
             few = told .few;
           }
 
-    pub unit-read : checkedAt kind key o n s ≡ Unit m → UnitRead kind suite key number n m s
+    pub unit-read : checkedAt kind key o n s ≡ Unit m → UnitRead kind suite key number n m s (unitOpened kind key o n m s)
     unfolding checkedAt unitSealTests unitAgrees unitOpened
     unit-read e =
         let h : List ℕ = unitAlong kind o s in

@@ -1,7 +1,7 @@
 -- What is handed out of a unit's text, and what a call answers and leaves by its outcome.
 use mathlib.Core.Path.{_≡_, refl, sym, ap, _∙_}
 use mathlib.Core.Bool.{true, false}
-use mathlib.Core.List.{List, [], _++_}
+use mathlib.Core.List.{List, [], _++_, append-assoc}
 use Prim.Native.Nat.{ℕ, _+_, _-_, _≤_, _<_}
 use native.Mathlib.Omega.{arith}
 use borrow.Author.Tests.{le-leb, lt-leb}
@@ -15,8 +15,8 @@ use Rattle.suites.specs.declared.refusal.Refusal.the-variants.{OutputTooShort, 
 use Rattle.limits.specs.Tests.{unless}
 use Rattle.sealing.specs.Seal.{written}
 use Rattle.fields.specs.Kind.{Kind}
-use Rattle.fields.specs.Unit.{sourceLength, sourceOf, targetOf, textInRange}
-use Rattle.fields.proofs.Texts.{length-sourceOf, length-targetOf}
+use Rattle.fields.specs.Unit.{BookUnit, unitText, sourceLength, sourceOf, targetOf, textInRange}
+use Rattle.fields.proofs.Texts.{sourceOf-unitText, targetOf-unitText, length-sourceOf, length-targetOf}
 use Rattle.parser.specs.declared.frame.Frame.{Frame}
 use Rattle.parser.specs.Frame.{frameAt}
 use Rattle.parser.specs.Opening.{openingBytes, afterOpening, checkTests}
@@ -92,6 +92,22 @@ module _ (t : List ℕ) where
           let target : length t - 2 - sourceLength t ≡ length (targetOf t) = omega (arith, length-targetOf t) in
           hands-same out (sym done) refl
           (λ i. Fetched (sym (length-sourceOf t ok) i) (target i), ap (λ r. r ++ drop (length r) out) (sym handed-out))
+
+-- of a unit's text
+module _ (u : BookUnit) (small : length (u .source) < 65536) {t : List ℕ} (text : t ≡ unitText (u .source) (u .target)) where
+  pub source-is : sourceOf t ≡ u .source
+  source-is = ap sourceOf text ∙ sourceOf-unitText (u .source) (u .target) small
+
+  pub target-is : targetOf t ≡ u .target
+  target-is = ap targetOf text ∙ targetOf-unitText (u .source) (u .target) small
+
+  pub handed-long : length (handedOut t) ≡ length (u .source) + length (u .target)
+  handed-long = (λ i. length (source-is i ++ target-is i)) ∙ length-append (u .source) (u .target)
+
+  pub handed-unit : (out : List ℕ) → written Done (handedOut t) out ≡ u .source ++ (u .target ++ drop (length (u .source) + length (u .target)) out)
+  handed-unit out =
+      (λ i. (source-is i ++ target-is i) ++ drop (handed-long i) out)
+      ∙ append-assoc (u .source) (u .target) (drop (length (u .source) + length (u .target)) out)
 
 -- where there is no unit the output stays
 pub none-left : (a : Answer) (out : List ℕ) → out ≡ written (andThen a (Refused NoSuchUnit)) (handedOut []) out
