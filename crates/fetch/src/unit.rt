@@ -49,6 +49,19 @@ fn hand_out(text: &[u8], out: &mut [u8]) -> FetchAnswer
     FetchAnswer::Fetched(s, m - 2 - s)
 }
 
+// The same of a text that was deciphered, once its tag has been compared. Refusals: the tag's, 12, 7.
+fn if_agreed(tag: Answer, text: &[u8], out: &mut [u8]) -> FetchAnswer
+    requires { ⌜ 2 ≤ length (now text) ⌝ }
+    ensures { λ r. ⌜ Hands
+        (andThen tag (textOutcome (now (text .entry)) (length (now (out .entry)))))
+        (now (text .entry)) (now (out .entry)) r (now (out .exit)) ⌝ }
+{
+    match tag {
+        Answer::Refused(why) => FetchAnswer::Refused(why),
+        Answer::Done => hand_out(text, out),
+    }
+}
+
 // The unit at the start of s, whose ciphertext has m bytes. It is deciphered once, in a working buffer, and nothing is handed out before its
 // tag has been compared. Refusals: 8, 12, 7.
 fn unit(
@@ -84,10 +97,7 @@ fn unit(
         tag,
         &mut text,
     );
-    match answer {
-        Answer::Refused(why) => FetchAnswer::Refused(why),
-        Answer::Done => hand_out(&text[..m], out),
-    }
+    if_agreed(answer, &text[..m], out)
 }
 
 // The refusal of the close where a unit was looked for. Refusals: the close's, else 16.
