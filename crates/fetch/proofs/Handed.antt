@@ -109,6 +109,13 @@ module _ (u : BookUnit) (small : length (u .source) < 65536) {t : List ℕ} (tex
       (λ i. (source-is i ++ target-is i) ++ drop (handed-long i) out)
       ∙ append-assoc (u .source) (u .target) (drop (length (u .source) + length (u .target)) out)
 
+-- where the tag is refused: the refusal, and the output stays
+pub tag-answer : (tag rest : Answer) (t : List ℕ) (why : Refusal) → tag ≡ Refused why → FetchRefused why ≡ fetchReport (andThen tag rest) t
+tag-answer tag rest t why e = ap (λ (a : Answer). fetchReport (andThen a rest) t) (sym e)
+
+pub tag-output : (tag rest : Answer) (given out : List ℕ) (why : Refusal) → tag ≡ Refused why → out ≡ written (andThen tag rest) given out
+tag-output tag rest given out why e = ap (λ (a : Answer). written (andThen a rest) given out) (sym e)
+
 -- where there is no unit the output stays
 pub none-left : (a : Answer) (out : List ℕ) → out ≡ written (andThen a (Refused NoSuchUnit)) (handedOut []) out
 none-left Done out = refl

@@ -3,12 +3,12 @@ use mathlib.Core.Path.{refl, sym, ap}
 use borrow.Author.Needs.{needs}
 use lib.ListN.{length}
 use Rattle.fetch.specs.Fetch.{andThen, textOutcome}
-use Rattle.fetch.proofs.Handed.{hands-same}
+use Rattle.fetch.proofs.Handed.{hands-same, tag-answer, tag-output}
 use Rattle.fetch.proofs.unit.if_agreed.Statement.{statement}
 use Rattle.fetch.proofs.unit.if_agreed.Tie as tie
 
 returns : tie.Need-returns
-returns c = (cc, cc)
+returns c = (search (needs, tag-answer), search (needs, tag-output))
 
 returns-2 : tie.Need-returns-2
 returns-2 c =
