@@ -80,7 +80,8 @@ pub record UnitRead (kind : Kind) (suite : Suite) (key : List ℕ) (number n m :
   pub few : n < mostUnits
 
 -- under the opening fields o, as a writer makes them
-module _ (kind : Kind) (key o : List ℕ) (held : o ≡ openingFields (openingSuite o) (openingNumber o)) (long : length key ≡ 16) (keyBytes : Bytes key) (n : ℕ) where
+module _ (kind : Kind) (key o : List ℕ) (held : o ≡ openingFields (openingSuite o) (openingNumber o)) (long : length key ≡ 16) (keyBytes : Bytes key)
+    (n : ℕ) where
   -- what the opening fields say
   abbrev suite : Suite
   suite = openingSuite o
@@ -197,7 +198,8 @@ module _ (kind : Kind) (key o : List ℕ) (held : o ≡ openingFields (openingSu
     unfolding unitAgrees unitOpened sealedBytes unitSealing
     opened-back =
         let h : List ℕ = openingFields suite number ++ unitHeader kind n d in
-        let along = unit-along-here kind o n d (sealedFields (length t) x ++ rest) (length-detailsOf kind u (a .given)) ∙ ap (λ (f : List ℕ). f ++ unitHeader kind n d) held in
+        let along = unit-along-here kind o n d (sealedFields (length t) x ++ rest) (length-detailsOf kind u (a .given))
+        ∙ ap (λ (f : List ℕ). f ++ unitHeader kind n d) held in
         let back = text-here suite key number n h long keyBytes t (bytes-unitText (u .source) (u .target) (a .given .sourceBytes) (a .given .targetBytes)) in (
           (λ i. agreesAt suite key number n (along i) (read-back .2 i)) ∙ back .0,
           (λ i. openedAt suite key number n (along i) (read-back .2 i)) ∙ back .1,
@@ -228,7 +230,8 @@ module _ (kind : Kind) (key o : List ℕ) (held : o ≡ openingFields (openingSu
     unit-opened = ap (unitOpened kind key o n (length t)) s-is ∙ opened-back .1
 
     -- and the codes that stand there
-    pub unit-codes : (frameFrom kind (unitBytes kind suite key number n u ++ rest) ≡ u .from) × (frameTo kind (unitBytes kind suite key number n u ++ rest) ≡ u .to)
+    pub unit-codes : (frameFrom kind (unitBytes kind suite key number n u ++ rest) ≡ u .from)
+        × (frameTo kind (unitBytes kind suite key number n u ++ rest) ≡ u .to)
     unfolding frameFrom frameTo detailsOf
     unit-codes =
         let k = kind .codeBytes in

@@ -37,7 +37,8 @@ use Rattle.fetch.proofs.Reached.{endPlace}
 
 -- in a book with the units us, then z, behind its opening fields, the walk to k ends before z
 module _ (kind : Kind) (suite : Suite) (key : List ℕ) (number : ℕ) (few : number < 2 ^ 64)
-    (allowed : listed (suite .cipher) (suite .steps) ≡ true) (us : List BookUnit) (z : List ℕ) (k : ℕ) (ends : walkTo kind k (unitsBytes kind suite key number 0 us ++ z) ≡ endPlace kind suite key number us) where
+    (allowed : listed (suite .cipher) (suite .steps) ≡ true) (us : List BookUnit) (z : List ℕ) (k : ℕ)
+    (ends : walkTo kind k (unitsBytes kind suite key number 0 us ++ z) ≡ endPlace kind suite key number us) where
   abbrev units : List ℕ
   units = unitsBytes kind suite key number 0 us
 
@@ -134,7 +135,8 @@ module _ (key x : List ℕ) (k : ℕ) where
     pub fetched : (out : List ℕ) → length (u .source) + length (u .target) ≤ length out
         → fetchAnswer key x k out ≡ Fetched (length (u .source)) (length (u .target))
     unfolding fetchAnswer fetchAnswerOf
-    fetched out h = ap (λ (a : Answer). fetchReport a textOf) (room (length out) h) ∙ (λ i. Fetched (length (source-is u small text i)) (length (target-is u small text i)))
+    fetched out h =
+        ap (λ (a : Answer). fetchReport a textOf) (room (length out) h) ∙ (λ i. Fetched (length (source-is u small text i)) (length (target-is u small text i)))
 
     pub too-short : (out : List ℕ) → length out < length (u .source) + length (u .target)
         → (fetchAnswer key x k out ≡ FetchRefused OutputTooShort) × (fetchBuffer key x k out ≡ out)

@@ -276,20 +276,23 @@ module _ (q : BookKind) (suite : Suite) (key : List ℕ) (number : ℕ) where
 
     -- the close at its place
     close-placed : (r : ℕ)
-        → placedOutcome (kindOf q) key (bookBytes (kindOf q) suite key number us) (length us) (placeBehind (kindOf q) suite key number us) r ≡ Refused NoSuchUnit
+        → placedOutcome (kindOf q) key (bookBytes (kindOf q) suite key number us) (length us) (placeBehind (kindOf q) suite key number us) r
+        ≡ Refused NoSuchUnit
     unfolding bookBytes
     close-placed r =
         placed-there kind suite key number (b .numberFits) (b .listedSuite) us c k close-ends (b .keyLong) (length us) r
         ∙ close-outcome kind suite key number (b .numberFits) (b .keyLong) (b .keyBytes) (length us) (formed q) close-fits r
 
-    close-clear : placedClearOf (kindOf q) (length us) (placeBehind (kindOf q) suite key number us) (bookBytes (kindOf q) suite key number us) ≡ noClear NoSuchUnit
+    close-clear : placedClearOf (kindOf q) (length us) (placeBehind (kindOf q) suite key number us) (bookBytes (kindOf q) suite key number us)
+        ≡ noClear NoSuchUnit
     unfolding bookBytes
     close-clear =
         placed-clear-there kind suite key number (b .numberFits) (b .listedSuite) us c k close-ends (length us)
         ∙ ap (clearOf kind (16 + length (unitsBytes kind suite key number 0 us)) c) closed
 
 -- by the book's own kind
-module _ (q : BookKind) (suite : Suite) (key : List ℕ) (number : ℕ) (us : List BookUnit) (b : Bookable (kindOf q) suite key number us) (k : ℕ) (past : length us ≤ k) where
+module _ (q : BookKind) (suite : Suite) (key : List ℕ) (number : ℕ) (us : List BookUnit) (b : Bookable (kindOf q) suite key number us) (k : ℕ)
+    (past : length us ≤ k) where
   none-fetched : NoUnit key (bookBytes (kindOf q) suite key number us) k
   unfolding unitClear
   none-fetched =

@@ -61,11 +61,11 @@ hands-refused t out e = hands-same {t = t} out (sym e) refl (refl, refl)
 
 -- the source and the target of a text are what follows its first two bytes
 module _ (t : List ℕ) where
-  pub handed-out : handedOut t ≡ drop 2 t
+  handed-out : handedOut t ≡ drop 2 t
   unfolding sourceOf targetOf
   handed-out = ap (λ (r : List ℕ). sourceOf t ++ r) (sym (drop-drop (sourceLength t) 2 t)) ∙ take-append-drop (sourceLength t) (drop 2 t)
 
-  pub length-handed : length (handedOut t) ≡ length t - 2
+  length-handed : length (handedOut t) ≡ length t - 2
   length-handed = ap length handed-out ∙ length-drop 2 t
 
   pub source-within : textInRange (length t) (sourceLength t) ≡ true → sourceLength t ≤ length t - 2

@@ -69,9 +69,11 @@ module _ (k : BookKind) (key o : List ℕ) (n : ℕ) (under : Under key o) (m : 
 
   -- and what it leaves there
   pub unit-held : (work : List ℕ) → m ≤ length work
-      → take m (withinBuffer (openingSuite o .cipher) (openingSuite o .steps) key (nonceOf (openingNumber o) n) (unitAlong (kindOf k) o s) (frameSealed (kindOf k) m s) work)
+      → take m (withinBuffer (openingSuite o .cipher) (openingSuite o .steps) key (nonceOf (openingNumber o) n) (unitAlong (kindOf k) o s)
+      (frameSealed (kindOf k) m s) work)
       ≡ unitOpened (kindOf k) key o n m s
   unfolding unitOpened
   unit-held work room =
-      ap (take m) (sym (within-buffer (openingSuite o) key (nonceOf (openingNumber o) n) (unitAlong (kindOf k) o s) (frameSealed (kindOf k) m s) work Done (unit-tested k key o n under m s told)))
+      ap (take m) (sym (within-buffer (openingSuite o) key (nonceOf (openingNumber o) n) (unitAlong (kindOf k) o s) (frameSealed (kindOf k) m s) work Done
+      (unit-tested k key o n under m s told)))
       ∙ held-front m (unitOpened (kindOf k) key o n m s) work (unit-opened-long k key o n under m s told) room

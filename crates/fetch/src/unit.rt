@@ -73,7 +73,8 @@ fn unit(
     s: &[u8],
     out: &mut [u8],
 ) -> FetchAnswer
-    requires { ⌜ Under (now key) (now front) × (frameAt (kindOf kind) n (now s) ≡ Frame.Unit m) ⌝ }
+    requires { ⌜ Under (now key) (now front)
+        × (frameAt (kindOf kind) n (now s) ≡ Frame.Unit m) ⌝ }
     ensures { λ r. ⌜ Hands
         (unitOutcome (kindOf kind) (now (key .entry)) (now (front .entry)) n m (now (s .entry)) (length (now (out .entry))))
         (unitOpened (kindOf kind) (now (key .entry)) (now (front .entry)) n m (now (s .entry)))
@@ -140,7 +141,8 @@ fn fetch_frame(
     s: &[u8],
     out: &mut [u8],
 ) -> PlacedAnswer
-    requires { ⌜ Under (now key) (now front) × (at + length (now s) < 2 ^ 64) ⌝ }
+    requires { ⌜ Under (now key) (now front)
+        × (at + length (now s) < 2 ^ 64) ⌝ }
     ensures { λ r. ⌜ HandsNext
         (outcomeHere (kindOf kind) (now (key .entry)) (now (front .entry)) n (now (s .entry)) (length (now (out .entry))))
         (textAt (kindOf kind) (now (key .entry)) (now (front .entry)) n (now (s .entry)))

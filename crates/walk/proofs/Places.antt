@@ -85,7 +85,7 @@ module _ (kind : Kind) (s : List ℕ) where
   walked-within k = walk-within k _ (omega arith)
 
   -- and so does the part of the frame at a place, where a bytes stand before them
-  pub part-within : (a n at : ℕ) (f : Frame) → frameAt kind n (drop at s) ≡ f → at ≤ length s
+  part-within : (a n at : ℕ) (f : Frame) → frameAt kind n (drop at s) ≡ f → at ≤ length s
       → partAt kind (a + at) f .at + partAt kind (a + at) f .len ≤ a + length s
   part-within a n at (Unit m) e h = omega (arith, unit-within n at m h e)
   part-within a n at Close e h = omega arith
@@ -116,7 +116,7 @@ clear-frame kind at s (Unit m) = refl
 clear-frame kind at s Close = refl
 clear-frame kind at s (FrameRefused why) = refl
 
-pub clear-part-of : (kind : Kind) (k : ℕ) (s : List ℕ) → unitClearOf kind k s .ciphertext ≡ ciphertextPlaceOf kind k s
+clear-part-of : (kind : Kind) (k : ℕ) (s : List ℕ) → unitClearOf kind k s .ciphertext ≡ ciphertextPlaceOf kind k s
 unfolding unitClearOf placedClearOf ciphertextPlaceOf partFrom afterOpening
 clear-part-of kind k s = by (openingTests s)
   where

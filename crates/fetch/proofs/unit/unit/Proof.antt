@@ -44,11 +44,13 @@ module _ (c : tie.After-open-within) where
       let a = p .args in
       let r = u .unit-parts .ensures in
       let f = u .before .suite .ensures in
-      ap (take (a .m)) (c .open-within .ensures .1 ∙ (λ i. withinBuffer (f i .cipher) (f i .steps) (a .key .now) (r .nonceIs i) (r .alongIs i) (r .sealedIs i) (replicate 8208 0)))
+      ap (take (a .m)) (c .open-within .ensures .1
+      ∙ (λ i. withinBuffer (f i .cipher) (f i .steps) (a .key .now) (r .nonceIs i) (r .alongIs i) (r .sealedIs i) (replicate 8208 0)))
       ∙ unit-held (a .kind) (a .key .now) (a .front .now) (a .n) (p .pre .0) (a .m) (a .s .now) (told p) (replicate 8208 0)
       (subst (λ k. a .m ≤ k) (sym (length-replicate {A = ℕ} 8208 0)) (omega (arith, told p .most)))
 
-  long : let a = c .before .before .before .before .before .before .before .before .before .before .before .before .before .before .args in length (take (a .m) (c .open-within .last .1 .1 .1 .1 .1 .1 .0)) ≡ a .m
+  long : let a = c .before .before .before .before .before .before .before .before .before .before .before .before .before .before .args in
+      length (take (a .m) (c .open-within .last .1 .1 .1 .1 .1 .1 .0)) ≡ a .m
   long =
       let p = c .before .before .before .before .before .before .before .before .before .before .before .before .before .before in
       let a = p .args in
