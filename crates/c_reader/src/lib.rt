@@ -2,16 +2,20 @@
 use checker::check::CheckAnswer;
 use fetch::unit::FetchAnswer;
 use fetch::unit::PlacedAnswer;
+ghost use mathlib.Core.List.{[], _∷_};
 ghost use mathlib.Core.Path.{_≡_};
-ghost use Rattle.checker.specs.Check.{checkAnswer};
+ghost use Rattle.checker.specs.Check.{checkAnswer, checkTold};
 ghost use Rattle.walk.specs.Ciphertext.{ciphertextPlace};
-ghost use Rattle.fetch.specs.Fetch.{fetchAnswer, fetchBuffer, placedAnswer, placedBuffer};
-ghost use Rattle.c_reader.specs.Read.{CheckLeaves, FetchLeaves, PlacedLeaves};
+ghost use Rattle.fetch.specs.Fetch.{fetchAnswer, fetchTold, fetchBuffer, placedAnswer, placedTold, placedBuffer};
+ghost use Rattle.returned.specs.Returned.{Returns};
 
 #[no_mangle]
 pub extern "C" fn sb_check(key: &[u8], book: &[u8], units: &mut u64, calls: &mut u64) -> u32
-    ensures { λ r. ⌜ CheckLeaves (checkAnswer (now (key .entry)) (now (book .entry)))
-        (now (units .entry)) (now (calls .entry)) r (now (units .exit)) (now (calls .exit)) ⌝ }
+    ensures { λ r. ⌜ Returns
+        (checkTold (checkAnswer (now (key .entry)) (now (book .entry))))
+        (now (units .entry) ∷ now (calls .entry) ∷ [])
+        r
+        (now (units .exit) ∷ now (calls .exit) ∷ []) ⌝ }
 {
     let answer = checker::check::check(key, book);
     match answer {
@@ -33,8 +37,11 @@ pub extern "C" fn sb_fetch(
     source: &mut u64,
     target: &mut u64,
 ) -> u32
-    ensures { λ r. ⌜ FetchLeaves (fetchAnswer (now (key .entry)) (now (book .entry)) k (now (out .entry)))
-        (now (source .entry)) (now (target .entry)) r (now (source .exit)) (now (target .exit))
+    ensures { λ r. ⌜ Returns
+        (fetchTold (fetchAnswer (now (key .entry)) (now (book .entry)) k (now (out .entry))))
+        (now (source .entry) ∷ now (target .entry) ∷ [])
+        r
+        (now (source .exit) ∷ now (target .exit) ∷ [])
         × (now (out .exit) ≡ fetchBuffer (now (key .entry)) (now (book .entry)) k (now (out .entry))) ⌝ }
 {
     let answer = fetch::unit::fetch(key, book, k, out);
@@ -59,9 +66,11 @@ pub extern "C" fn sb_fetch_at(
     target: &mut u64,
     next: &mut u64,
 ) -> u32
-    ensures { λ r. ⌜ PlacedLeaves (placedAnswer (now (key .entry)) (now (book .entry)) number at (now (out .entry)))
-        (now (source .entry)) (now (target .entry)) (now (next .entry))
-        r (now (source .exit)) (now (target .exit)) (now (next .exit))
+    ensures { λ r. ⌜ Returns
+        (placedTold (placedAnswer (now (key .entry)) (now (book .entry)) number at (now (out .entry))))
+        (now (source .entry) ∷ now (target .entry) ∷ now (next .entry) ∷ [])
+        r
+        (now (source .exit) ∷ now (target .exit) ∷ now (next .exit) ∷ [])
         × (now (out .exit) ≡ placedBuffer (now (key .entry)) (now (book .entry)) number at (now (out .entry))) ⌝ }
 {
     let answer = fetch::unit::fetch_placed(key, book, number, at, out);

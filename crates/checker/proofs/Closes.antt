@@ -36,7 +36,8 @@ unfolding closeSealed
 bytes-sealed kind s b = bytes-value 16 (afterField (kind .numberBytes) s) (bytes-after (kind .numberBytes) s b)
 
 -- under the opening fields o, as a writer makes them
-module _ (kind : Kind) (key o : List ℕ) (held : o ≡ openingFields (openingSuite o) (openingNumber o)) (long : length key ≡ 16) (keyBytes : Bytes key) (n : ℕ) where
+module _ (kind : Kind) (key o : List ℕ) (held : o ≡ openingFields (openingSuite o) (openingNumber o)) (long : length key ≡ 16) (keyBytes : Bytes key)
+    (n : ℕ) where
   -- what the opening fields say
   abbrev suite : Suite
   suite = openingSuite o

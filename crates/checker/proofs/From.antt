@@ -95,7 +95,7 @@ module _ (kind : Kind) (suite : Suite) (key : List ℕ) (number : ℕ) where
         few = omega arith;
       }
 
-  from-unit : (n total m : ℕ) (s : List ℕ) (c t : ℕ) → UnitRead kind suite key number n m s
+  from-unit : (n total m : ℕ) (s : List ℕ) (c t : ℕ) {text : List ℕ} → UnitRead kind suite key number n m s text
       → Accepts (suc n) (total + unitCalls kind m) (afterUnit kind m s) c t → Accepts n total s c t
   from-unit n total m s c t r w =
       let u = r .unit in
@@ -128,7 +128,8 @@ module _ (kind : Kind) (key o : List ℕ) (held : o ≡ openingFields (openingSu
   number = openingNumber o
 
   from-frame : (n total : ℕ) (s : List ℕ) (c t : ℕ) (rest : ℕ → CheckAnswer) (f : Frame) → checkedAt kind key o n s ≡ f → n ≤ mostUnits → Bytes s
-      → ((m : ℕ) → n < mostUnits → Bytes (afterUnit kind m s) → rest m ≡ Accepted c t → Accepts kind suite key number (suc n) (total + unitCalls kind m) (afterUnit kind m s) c t)
+      → ((m : ℕ) → n < mostUnits → Bytes (afterUnit kind m s) → rest m ≡ Accepted c t
+      → Accepts kind suite key number (suc n) (total + unitCalls kind m) (afterUnit kind m s) c t)
       → byFrame f rest (Accepted n (total + closeCalls kind)) ≡ Accepted c t → Accepts kind suite key number n total s c t
   from-frame n total s c t rest (Unit m) q few b w e =
       let r = unit-read kind key o held long keyBytes n s b m q in
@@ -150,7 +151,8 @@ module _ (kind : Kind) (key o : List ℕ) (held : o ≡ openingFields (openingSu
   -- every list of units, then the close, is accepted
   pub from-here : WellFormed kind → (left n total : ℕ) (us : List BookUnit) → EachFrom (Allowed kind) n us → length us < left
       → n + length us ≤ mostUnits → n + length us < 256 ^ kind .numberBytes
-      → checkFrom kind key o left n total (bytesFrom kind suite key number n us) ≡ Accepted (n + length us) (total + callTotal (sealingsFrom kind suite number n us))
+      → checkFrom kind key o left n total (bytesFrom kind suite key number n us)
+      ≡ Accepted (n + length us) (total + callTotal (sealingsFrom kind suite number n us))
   from-here wf zero n total us each less few fits = absurd (omega arith)
   from-here wf (suc left) n total [] noneFrom less few fits =
       ap (checkFrom kind key o (suc left) n total) (bytes-none kind suite key number n)
@@ -159,7 +161,8 @@ module _ (kind : Kind) (key o : List ℕ) (held : o ≡ openingFields (openingSu
   from-here wf (suc left) n total (u ∷ us) (moreFrom a each) less few fits =
       let m : ℕ = length (unitText (u .source) (u .target)) in
       let w = unit-written kind key o held long keyBytes n wf (omega arith) (omega arith) u a (bytesFrom kind suite key number (suc n) us) in
-      let sum : total + unitCalls kind m + callTotal (sealingsFrom kind suite number (suc n) us) ≡ total + callTotal (sealingsFrom kind suite number n (u ∷ us)) =
+      let sum : total + unitCalls kind m + callTotal (sealingsFrom kind suite number (suc n) us)
+      ≡ total + callTotal (sealingsFrom kind suite number n (u ∷ us)) =
       omega (arith, calls-more kind suite number n u us a) in
       ap (checkFrom kind key o (suc left) n total) (bytes-more kind suite key number n u us)
       ∙ from-step kind key o left n total (unitBytes kind suite key number n u ++ bytesFrom kind suite key number (suc n) us) (Unit m) (w .0)

@@ -34,7 +34,8 @@ module _ (kind : Kind) (key o : List ℕ) where
   module _ (place n total : ℕ) (s : List ℕ) (few : n ≤ mostUnits) where
     turn : (f : Frame) → checkedAt kind key o n (drop place s) ≡ f
         → checkAtPlace place n total s
-        ≡ byFrame f (λ (m : ℕ). checkFrom kind key o (mostUnits - n) (suc n) (total + unitCalls kind m) (afterUnit kind m (drop place s))) (Accepted n (total + closeCalls kind))
+        ≡ byFrame f (λ (m : ℕ). checkFrom kind key o (mostUnits - n) (suc n) (total + unitCalls kind m) (afterUnit kind m (drop place s)))
+        (Accepted n (total + closeCalls kind))
     turn f e =
         let more : suc mostUnits - n ≡ suc (mostUnits - n) = omega arith in
         ap (λ (left : ℕ). checkFrom kind key o left n total (drop place s)) more

@@ -69,17 +69,19 @@ module _ (kind : Kind) (s : List ℕ) (b : Bytes s) where
       let d = frameDetails kind s in
       bytes-take (kind .codeBytes) (drop (kind .codeBytes) d) (bytes-drop (kind .codeBytes) d bytes-details)
 
--- what is told of such a unit
-pub record UnitRead (kind : Kind) (suite : Suite) (key : List ℕ) (number n m : ℕ) (s : List ℕ) : Type 0 where
+-- what is told of such a unit, which opens to the text t
+pub record UnitRead (kind : Kind) (suite : Suite) (key : List ℕ) (number n m : ℕ) (s t : List ℕ) : Type 0 where
   pub unit : BookUnit
   pub allowed : Allowed kind n unit
+  pub opened : unitText (unit .source) (unit .target) ≡ t
   pub text : length (unitText (unit .source) (unit .target)) ≡ m
   pub bytes : s ≡ unitBytes kind suite key number n unit ++ afterUnit kind m s
   pub rest : Bytes (afterUnit kind m s)
   pub few : n < mostUnits
 
 -- under the opening fields o, as a writer makes them
-module _ (kind : Kind) (key o : List ℕ) (held : o ≡ openingFields (openingSuite o) (openingNumber o)) (long : length key ≡ 16) (keyBytes : Bytes key) (n : ℕ) where
+module _ (kind : Kind) (key o : List ℕ) (held : o ≡ openingFields (openingSuite o) (openingNumber o)) (long : length key ≡ 16) (keyBytes : Bytes key)
+    (n : ℕ) where
   -- what the opening fields say
   abbrev suite : Suite
   suite = openingSuite o
@@ -129,13 +131,14 @@ module _ (kind : Kind) (key o : List ℕ) (held : o ≡ openingFields (openingSu
           ∙ ap (λ (h : List ℕ). sealedAt suite key number n h t) (sym along)
           ∙ image
 
-      u-read : UnitRead kind suite key number n m s
+      u-read : UnitRead kind suite key number n m s t
       unfolding unitBytes
       u-read =
           let m-is : length (unitText (sourceOf t) (targetOf t)) ≡ m = ap length u-text ∙ long-t in
           record {
             unit = u;
             allowed = u-allowed;
+            opened = u-text;
             text = m-is;
             bytes =
                 told .written b
@@ -145,7 +148,7 @@ module _ (kind : Kind) (key o : List ℕ) (held : o ≡ openingFields (openingSu
             few = told .few;
           }
 
-    pub unit-read : checkedAt kind key o n s ≡ Unit m → UnitRead kind suite key number n m s
+    pub unit-read : checkedAt kind key o n s ≡ Unit m → UnitRead kind suite key number n m s (unitOpened kind key o n m s)
     unfolding checkedAt unitSealTests unitAgrees unitOpened
     unit-read e =
         let h : List ℕ = unitAlong kind o s in
@@ -195,7 +198,8 @@ module _ (kind : Kind) (key o : List ℕ) (held : o ≡ openingFields (openingSu
     unfolding unitAgrees unitOpened sealedBytes unitSealing
     opened-back =
         let h : List ℕ = openingFields suite number ++ unitHeader kind n d in
-        let along = unit-along-here kind o n d (sealedFields (length t) x ++ rest) (length-detailsOf kind u (a .given)) ∙ ap (λ (f : List ℕ). f ++ unitHeader kind n d) held in
+        let along = unit-along-here kind o n d (sealedFields (length t) x ++ rest) (length-detailsOf kind u (a .given))
+        ∙ ap (λ (f : List ℕ). f ++ unitHeader kind n d) held in
         let back = text-here suite key number n h long keyBytes t (bytes-unitText (u .source) (u .target) (a .given .sourceBytes) (a .given .targetBytes)) in (
           (λ i. agreesAt suite key number n (along i) (read-back .2 i)) ∙ back .0,
           (λ i. openedAt suite key number n (along i) (read-back .2 i)) ∙ back .1,
@@ -226,7 +230,8 @@ module _ (kind : Kind) (key o : List ℕ) (held : o ≡ openingFields (openingSu
     unit-opened = ap (unitOpened kind key o n (length t)) s-is ∙ opened-back .1
 
     -- and the codes that stand there
-    pub unit-codes : (frameFrom kind (unitBytes kind suite key number n u ++ rest) ≡ u .from) × (frameTo kind (unitBytes kind suite key number n u ++ rest) ≡ u .to)
+    pub unit-codes : (frameFrom kind (unitBytes kind suite key number n u ++ rest) ≡ u .from)
+        × (frameTo kind (unitBytes kind suite key number n u ++ rest) ≡ u .to)
     unfolding frameFrom frameTo detailsOf
     unit-codes =
         let k = kind .codeBytes in

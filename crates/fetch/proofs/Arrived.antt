@@ -1,12 +1,12 @@
 -- What fetch and the ciphertext call give of a book whose walk ends at a known place.
 use mathlib.Core.Path.{_≡_, refl, sym, ap, _∙_}
 use mathlib.Core.Bool.{true}
-use mathlib.Core.List.{List, _++_, append-assoc}
+use mathlib.Core.List.{List, _++_}
 use Prim.Native.Nat.{ℕ, _+_, _^_, _≤_, _<_}
 use native.Mathlib.Omega.{arith}
 use borrow.Author.Tests.{eq-eqb, le-leb, lt-leb}
 use lib.Dec.{eqb, leb}
-use lib.ListN.{length, drop, length-append}
+use lib.ListN.{length, drop}
 use lib.Seq.{drop-at, drop-drop}
 use Rattle.suites.specs.declared.refusal.Answer.{Answer}
 use Rattle.suites.specs.declared.refusal.Answer.the-variants.{Done, Refused}
@@ -19,8 +19,7 @@ use Rattle.limits.proofs.Passed.{unless-passes}
 use Rattle.sealing.specs.Seal.{written}
 use Rattle.fields.specs.Kind.{Kind}
 use Rattle.kinds.specs.Kind.{kindOf, bookKind}
-use Rattle.fields.specs.Unit.{BookUnit, unitText, sourceOf, targetOf}
-use Rattle.fields.proofs.Texts.{sourceOf-unitText, targetOf-unitText}
+use Rattle.fields.specs.Unit.{BookUnit, unitText}
 use Rattle.format.specs.Layout.{unitsBytes}
 use Rattle.format.specs.Sealings.{openingFields}
 use Rattle.format.proofs.Lengths.{length-openingFields}
@@ -30,13 +29,16 @@ use Rattle.parser.proofs.Openings.{opening-here, front-here}
 use Rattle.fetch.specs.declared.unit.FetchAnswer.the-variants.{Fetched, Refused as FetchRefused}
 use Rattle.walk.specs.Walk.{walkTo}
 use Rattle.walk.specs.Clear.{clearOf, clearUnless, placedClearOf, unitClearOf}
-use Rattle.fetch.specs.Fetch.{andThen, handedOut, roomTest, outcomeHere, textAt, fetchOutcome, fetchText, fetchReport, placedOutcome, fetchAnswerOf, fetchAnswer, fetchBufferOf, fetchBuffer}
+use Rattle.fetch.specs.Fetch.{andThen, handedOut, roomTest, outcomeHere, textAt, fetchOutcome, fetchText, fetchReport}
+use Rattle.fetch.specs.Fetch.{placedOutcome, fetchAnswerOf, fetchAnswer, fetchTold, fetchBufferOf, fetchBuffer}
 use Rattle.fetch.specs.Exact.{HandsOut}
+use Rattle.fetch.proofs.Handed.{source-is, target-is, handed-long, handed-unit}
 use Rattle.fetch.proofs.Reached.{endPlace}
 
 -- in a book with the units us, then z, behind its opening fields, the walk to k ends before z
-module _ (kind : Kind) (suite : Suite) (key : List ℕ) (number : ℕ) (few : number < 2 ^ 64) (allowed : listed (suite .cipher) (suite .steps) ≡ true)
-    (us : List BookUnit) (z : List ℕ) (k : ℕ) (ends : walkTo kind k (unitsBytes kind suite key number 0 us ++ z) ≡ endPlace kind suite key number us) where
+module _ (kind : Kind) (suite : Suite) (key : List ℕ) (number : ℕ) (few : number < 2 ^ 64)
+    (allowed : listed (suite .cipher) (suite .steps) ≡ true) (us : List BookUnit) (z : List ℕ) (k : ℕ)
+    (ends : walkTo kind k (unitsBytes kind suite key number 0 us ++ z) ≡ endPlace kind suite key number us) where
   abbrev units : List ℕ
   units = unitsBytes kind suite key number 0 us
 
@@ -98,47 +100,53 @@ module _ (kind : Kind) (suite : Suite) (key : List ℕ) (number : ℕ) (few : nu
 
 -- of a book x, by its own kind
 module _ (key x : List ℕ) (k : ℕ) where
+  -- the outcome where the output has r bytes, and the text
+  abbrev outcomeOf : ℕ → Answer
+  outcomeOf r = fetchOutcome (kindOf (bookKind x)) key x k r
+
+  abbrev textOf : List ℕ
+  textOf = fetchText (kindOf (bookKind x)) key x k
+
   -- a refusal leaves the output as it was
-  pub refuses : (why : Refusal) (out : List ℕ) → fetchOutcome (kindOf (bookKind x)) key x k (length out) ≡ Refused why
+  pub refused-as : (why : Refusal) (out : List ℕ) → outcomeOf (length out) ≡ Refused why
       → (fetchAnswer key x k out ≡ FetchRefused why) × (fetchBuffer key x k out ≡ out)
   unfolding fetchAnswer fetchAnswerOf fetchBuffer fetchBufferOf
-  refuses why out e = (λ i. fetchReport (e i) (fetchText (kindOf (bookKind x)) key x k), λ i. written (e i) (handedOut (fetchText (kindOf (bookKind x)) key x k)) out)
+  refused-as why out e = (λ i. fetchReport (e i) textOf, λ i. written (e i) (handedOut textOf) out)
 
   -- a unit's text that is opened is handed out where there is room
-  module _ (u : BookUnit) (small : length (u .source) < 65536) (outcome : (r : ℕ) → fetchOutcome (kindOf (bookKind x)) key x k r ≡ roomTest (unitText (u .source) (u .target)) r)
-      (text : fetchText (kindOf (bookKind x)) key x k ≡ unitText (u .source) (u .target)) where
+  module _ (u : BookUnit) (small : length (u .source) < 65536) (outcome : (r : ℕ) → outcomeOf r ≡ roomTest (unitText (u .source) (u .target)) r)
+      (text : textOf ≡ unitText (u .source) (u .target)) where
     abbrev t : List ℕ
     t = unitText (u .source) (u .target)
 
-    source-is : sourceOf (fetchText (kindOf (bookKind x)) key x k) ≡ u .source
-    source-is = ap sourceOf text ∙ sourceOf-unitText (u .source) (u .target) small
+    long : length (handedOut t) ≡ length (u .source) + length (u .target)
+    long = handed-long u small refl
 
-    target-is : targetOf (fetchText (kindOf (bookKind x)) key x k) ≡ u .target
-    target-is = ap targetOf text ∙ targetOf-unitText (u .source) (u .target) small
-
-    handed-long : length (handedOut t) ≡ length (u .source) + length (u .target)
-    handed-long =
-        (λ i. length (sourceOf-unitText (u .source) (u .target) small i ++ targetOf-unitText (u .source) (u .target) small i)) ∙ length-append (u .source) (u .target)
-
-    room : (r : ℕ) → length (u .source) + length (u .target) ≤ r → fetchOutcome (kindOf (bookKind x)) key x k r ≡ Done
+    room : (r : ℕ) → length (u .source) + length (u .target) ≤ r → outcomeOf r ≡ Done
     unfolding roomTest
-    room r h = outcome r ∙ unless-passes (leb (length (handedOut t)) r) OutputTooShort Done (le-leb (length (handedOut t)) r (omega (arith, handed-long))) refl
+    room r h =
+        outcome r
+        ∙ unless-passes (leb (length (handedOut t)) r) OutputTooShort Done (le-leb (length (handedOut t)) r (omega (arith, long))) refl
 
-    no-room : (r : ℕ) → r < length (u .source) + length (u .target) → fetchOutcome (kindOf (bookKind x)) key x k r ≡ Refused OutputTooShort
+    no-room : (r : ℕ) → r < length (u .source) + length (u .target) → outcomeOf r ≡ Refused OutputTooShort
     unfolding roomTest
-    no-room r h = outcome r ∙ ap (λ b. unless b OutputTooShort Done) (lt-leb (length (handedOut t)) r (omega (arith, handed-long)))
+    no-room r h = outcome r ∙ ap (λ b. unless b OutputTooShort Done) (lt-leb (length (handedOut t)) r (omega (arith, long)))
+
+    pub fetched : (out : List ℕ) → length (u .source) + length (u .target) ≤ length out
+        → fetchAnswer key x k out ≡ Fetched (length (u .source)) (length (u .target))
+    unfolding fetchAnswer fetchAnswerOf
+    fetched out h =
+        ap (λ (a : Answer). fetchReport a textOf) (room (length out) h) ∙ (λ i. Fetched (length (source-is u small text i)) (length (target-is u small text i)))
+
+    pub too-short : (out : List ℕ) → length out < length (u .source) + length (u .target)
+        → (fetchAnswer key x k out ≡ FetchRefused OutputTooShort) × (fetchBuffer key x k out ≡ out)
+    too-short out h = refused-as OutputTooShort out (no-room (length out) h)
 
     pub hands-out : HandsOut key x k u
-    unfolding fetchAnswer fetchAnswerOf fetchBuffer fetchBufferOf
+    unfolding fetchBuffer fetchBufferOf
     hands-out =
         record {
-          answer = λ out h.
-              ap (λ (a : Answer). fetchReport a (fetchText (kindOf (bookKind x)) key x k)) (room (length out) h)
-              ∙ (λ i. Fetched (length (source-is i)) (length (target-is i)));
-          output = λ out h.
-              ap (λ (a : Answer). written a (handedOut (fetchText (kindOf (bookKind x)) key x k)) out) (room (length out) h)
-              ∙ (λ i. (source-is i ++ target-is i) ++ drop (length (source-is i ++ target-is i)) out)
-              ∙ append-assoc (u .source) (u .target) (drop (length (u .source ++ u .target)) out)
-              ∙ ap (λ (n : ℕ). u .source ++ (u .target ++ drop n out)) (length-append (u .source) (u .target));
-          short = λ out h. refuses OutputTooShort out (no-room (length out) h);
+          answer = λ out h. ap fetchTold (fetched out h);
+          output = λ out h. ap (λ (a : Answer). written a (handedOut textOf) out) (room (length out) h) ∙ handed-unit u small text out;
+          short = λ out h. (ap fetchTold (too-short out h .0), too-short out h .1);
         }

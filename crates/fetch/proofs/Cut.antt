@@ -74,5 +74,6 @@ module _ (kind : Kind) (suite : Suite) (key : List ℕ) (number : ℕ) (before :
   unfolding unitBytes sealedFields
   front-is rest =
       let header = unitHeader kind (length before) (detailsOf kind u) in
-      ap (λ (y : List ℕ). openingFields suite number ++ (units ++ ((header ++ (y ++ field 0x12 (drop m sealed))) ++ rest))) (field-at 0x11 m (take m sealed) length-ciphertext)
+      ap (λ (y : List ℕ). openingFields suite number ++ (units ++ ((header ++ (y ++ field 0x12 (drop m sealed))) ++ rest)))
+      (field-at 0x11 m (take m sealed) length-ciphertext)
       ∙ simp append-assoc

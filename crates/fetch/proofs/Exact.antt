@@ -1,13 +1,14 @@
 -- Fetch and the ciphertext call give exactly the units of every book of the layout, and 16 past them.
 use mathlib.Core.Path.{_≡_, sym, ap, _∙_}
 use mathlib.Core.List.{List, [], _∷_, _++_}
-use Prim.Native.Nat.{ℕ, _+_, _^_, _≤_, _<_, min}
+use Prim.Native.Nat.{ℕ, _+_, _^_, _≤_, _<_}
 use native.Mathlib.Nat.{zero-add}
 use native.Mathlib.Omega.{arith}
 use lib.ListN.{length, take, drop, length-append}
 use lib.Seq.{take-at, drop-at}
-use Rattle.suites.specs.declared.refusal.Refusal.the-variants.{NoSuchUnit}
+use Rattle.suites.specs.declared.refusal.Refusal.the-variants.{OutputTooShort, NoSuchUnit}
 use Rattle.suites.specs.declared.suite.Suite.{Suite}
+use Rattle.suites.specs.Told.{told}
 use Rattle.fields.specs.Field.{field}
 use Rattle.fields.specs.Kind.{Kind}
 use Rattle.fields.specs.Unit.{BookUnit, Allowed, unitText}
@@ -25,21 +26,25 @@ use Rattle.kinds.proofs.Formed.{formed}
 use Rattle.parser.specs.declared.frame.Frame.the-variants.{Unit, Close}
 use Rattle.parser.specs.Frame.{mostUnits, frameAt}
 use Rattle.parser.proofs.Frames.{readable}
-use Rattle.parser.proofs.Openings.{opening-here}
+use Rattle.parser.specs.Opening.{afterOpening}
 use Rattle.checker.proofs.BookKinds.{own-kind, unit-kind}
 use Rattle.walk.specs.declared.clear.Clear.{Clear}
 use Rattle.walk.specs.declared.ciphertext.Part.{Part}
 use Rattle.walk.specs.Walk.{walkTo}
 use Rattle.walk.specs.Ciphertext.{ciphertextPlace, ciphertextPart}
-use Rattle.walk.specs.Clear.{codeOf, noClear, clearOf, clearUnless, placedClearOf, placedClear, unitClearOf, unitClear}
+use Rattle.walk.specs.Clear.{codeOf, noClear, clearOf, placedClearOf, placedClear, unitClearOf, unitClear}
 use Rattle.walk.proofs.Places.{clear-part}
-use Rattle.fetch.specs.Fetch.{handedOut, fetchOutcome, fetchText, placedOutcome, placedText, placedReport, nextOf, fetchAnswerOf, fetchAnswer, fetchBufferOf, fetchBuffer, placedAnswerOf, placedAnswer, placedBufferOf, placedBuffer}
+use Rattle.fetch.specs.declared.unit.FetchAnswer.{FetchAnswer}
+use Rattle.fetch.specs.declared.unit.FetchAnswer.the-variants.{Fetched, Refused as FetchRefused}
+use Rattle.fetch.specs.Fetch.{handedOut, roomTest, fetchOutcome, fetchText, placedOutcome, placedText, placedReport, placedTold, nextOf, fetchTold}
+use Rattle.fetch.specs.Fetch.{fetchAnswerOf, fetchAnswer, fetchBufferOf, fetchBuffer, placedAnswerOf, placedAnswer, placedBufferOf, placedBuffer}
 use Rattle.fetch.specs.Hands.{withNext}
 use Rattle.fetch.specs.Exact.{HandsOut, NoUnit, ClosesAt, PartOf, placeBehind, StandsAt, unitSays, SaysClear, FetchesUnits}
 use Rattle.fetch.proofs.Cut.{behind, book-cut, front, length-front, length-ciphertext, front-is}
 use Rattle.fetch.proofs.Written.{unit-frame, unit-outcome, unit-text, unit-codes, close-frame, close-outcome}
 use Rattle.fetch.proofs.Reached.{endPlace, unit-length, walk-ends, walk-closes}
-use Rattle.fetch.proofs.Arrived.{outcome-there, text-there, there-whole, placed-there, placed-clear-there, clear-there, refuses, hands-out}
+use Rattle.fetch.proofs.Arrived.{outcome-there, text-there, there-whole, placed-there, placed-clear-there, clear-there}
+use Rattle.fetch.proofs.Arrived.{refused-as, fetched, too-short, hands-out}
 use Rattle.fetch.proofs.Handed.{fetch-placed}
 
 module _ (q : BookKind) (suite : Suite) (key : List ℕ) (number : ℕ) where
@@ -85,17 +90,23 @@ module _ (q : BookKind) (suite : Suite) (key : List ℕ) (number : ℕ) where
         walk-ends kind suite key number (b .numberFits) (b .keyLong) (b .keyBytes) (formed q) before z (eachFrom-left before (u ∷ after) (b .units))
         (omega (arith, few)) (omega (arith, fits))
 
-    unit-fetched : HandsOut key (bookBytes (kindOf q) suite key number (before ++ u ∷ after)) n u
-    unit-fetched =
-        rw (book-cut kind suite key number before u after)
-        (hands-out key x n u
-        (omega (arith, range-told (length (u .source)) (length (u .target)) (allowed .range)))
-        (λ r. ap (λ (p : BookKind). fetchOutcome (kindOf p) key x n r) own
+    small : length (u .source) < 65536
+    small = omega (arith, range-told (length (u .source)) (length (u .target)) (allowed .range))
+
+    outcome-is : (r : ℕ) → fetchOutcome (kindOf (bookKind x)) key x n r ≡ roomTest (unitText (u .source) (u .target)) r
+    outcome-is r =
+        ap (λ (p : BookKind). fetchOutcome (kindOf p) key x n r) own
         ∙ outcome-there kind suite key number (b .numberFits) (b .listedSuite) before z n ends (b .keyLong) r
-        ∙ unit-outcome kind suite key number (b .numberFits) (b .keyLong) (b .keyBytes) n (formed q) fits few u allowed rest r)
-        (ap (λ (p : BookKind). fetchText (kindOf p) key x n) own
+        ∙ unit-outcome kind suite key number (b .numberFits) (b .keyLong) (b .keyBytes) n (formed q) fits few u allowed rest r
+
+    text-is : fetchText (kindOf (bookKind x)) key x n ≡ unitText (u .source) (u .target)
+    text-is =
+        ap (λ (p : BookKind). fetchText (kindOf p) key x n) own
         ∙ text-there kind suite key number (b .numberFits) (b .listedSuite) before z n ends
-        ∙ unit-text kind suite key number (b .numberFits) (b .keyLong) (b .keyBytes) n (formed q) fits few u allowed rest))
+        ∙ unit-text kind suite key number (b .numberFits) (b .keyLong) (b .keyBytes) n (formed q) fits few u allowed rest
+
+    unit-fetched : HandsOut key (bookBytes (kindOf q) suite key number (before ++ u ∷ after)) n u
+    unit-fetched = rw (book-cut kind suite key number before u after) (hands-out key x n u small outcome-is text-is)
 
     -- what stands in the clear, and where the next unit stands
     framed : frameAt kind n z ≡ Unit m
@@ -185,40 +196,52 @@ module _ (q : BookKind) (suite : Suite) (key : List ℕ) (number : ℕ) where
     }
 
     unit-clear : SaysClear (kindOf q) suite key number before u (bookBytes (kindOf q) suite key number (before ++ u ∷ after))
-    unit-clear = rw (book-cut kind suite key number before u after) (record { walked = walked-clear ∙ says; placed = placed-clear ∙ says })
+    unit-clear =
+        rw (book-cut kind suite key number before u after)
+        (record {
+          done = (ap (λ (c : Clear). told (c .answer)) walked-clear, ap (λ (c : Clear). told (c .answer)) placed-clear);
+          walked = walked-clear ∙ says;
+          placed = placed-clear ∙ says;
+        })
 
-    -- fetch by its place
-    opened : min (length x) 16 ≡ 16
-    opened = omega (arith, length-append (openingFields suite number) (units ++ z), length-openingFields suite number)
-
-    reached : walkTo kind n (drop (min (length x) 16) x) ≡ endPlace kind suite key number before
-    reached =
-        ap (walkTo kind n)
-        (ap (λ (a : ℕ). drop a x) opened ∙ drop-at (openingFields suite number) (units ++ z) 16 (length-openingFields suite number))
-        ∙ ends
+    -- fetch by its place: the walk ends there
+    reached : walkTo kind n (afterOpening x) ≡ endPlace kind suite key number before
+    unfolding afterOpening
+    reached = ap (walkTo kind n) (drop-at (openingFields suite number) (units ++ z) 16 (length-openingFields suite number)) ∙ ends
 
     -- the next unit, from where the walk ends
-    next-there : let p = walkTo kind n (drop (min (length x) 16) x) in let at = min (length x) 16 + p .at in
-        nextOf kind at (frameAt kind (p .number) (drop at x)) ≡ placeBehind (kindOf q) suite key number (before ++ u ∷ [])
+    next-there : let p = walkTo kind n (afterOpening x) in
+        nextOf kind (16 + p .at) (frameAt kind (p .number) (drop (16 + p .at) x)) ≡ placeBehind (kindOf q) suite key number (before ++ u ∷ [])
     next-there =
-        (λ i. nextOf kind (opened i + reached i .at) (frameAt kind (reached i .number) (drop (opened i + reached i .at) x)))
+        (λ i. nextOf kind (16 + reached i .at) (frameAt kind (reached i .number) (drop (16 + reached i .at) x)))
         ∙ ap (λ (y : List ℕ). nextOf kind (16 + length units) (frameAt kind n y)) there
         ∙ ap (nextOf kind (16 + length units)) framed
         ∙ next-is
 
+    -- at its place the answer of fetch, with the place of the next one
+    placed-is : (out : List ℕ) (a : FetchAnswer) → fetchAnswer key x n out ≡ a
+        → placedTold (placedAnswer key x n (16 + length units) out)
+        ≡ placedTold (withNext a (placeBehind (kindOf q) suite key number (before ++ u ∷ [])))
+    unfolding placedAnswer fetchAnswer
+    placed-is out a e =
+        ap placedTold
+        (ap (λ (p : BookKind). placedAnswerOf (kindOf p) key x n (16 + length units) out) own
+        ∙ sym (λ i. placedAnswerOf kind key x (reached i .number) (16 + reached i .at) out)
+        ∙ fetch-placed kind key x n out .0
+        ∙ (λ i. withNext (fetchAnswerOf (kindOf (sym own i)) key x n out) (next-there i))
+        ∙ ap (λ (r : FetchAnswer). withNext r (placeBehind (kindOf q) suite key number (before ++ u ∷ []))) e)
+
     unit-placed : StandsAt (kindOf q) suite key number before u (bookBytes (kindOf q) suite key number (before ++ u ∷ after))
-    unfolding placedAnswer placedBuffer fetchAnswer fetchBuffer
+    unfolding placedBuffer fetchBuffer
     unit-placed =
         rw (book-cut kind suite key number before u after)
         (record {
-          answer = λ out.
-              ap (λ (p : BookKind). placedAnswerOf (kindOf p) key x n (16 + length units) out) own
-              ∙ sym (λ i. placedAnswerOf kind key x (reached i .number) (opened i + reached i .at) out)
-              ∙ fetch-placed kind key x n out .0
-              ∙ (λ i. withNext (fetchAnswerOf (kindOf (sym own i)) key x n out) (next-there i));
+          answer = λ out h.
+              placed-is out (Fetched (length (u .source)) (length (u .target))) (fetched key x n u small outcome-is text-is out h);
+          short = λ out h. placed-is out (FetchRefused OutputTooShort) (too-short key x n u small outcome-is text-is out h .0);
           output = λ out.
               ap (λ (p : BookKind). placedBufferOf (kindOf p) key x n (16 + length units) out) own
-              ∙ sym (λ i. placedBufferOf kind key x (reached i .number) (opened i + reached i .at) out)
+              ∙ sym (λ i. placedBufferOf kind key x (reached i .number) (16 + reached i .at) out)
               ∙ fetch-placed kind key x n out .1
               ∙ ap (λ (p : BookKind). fetchBufferOf (kindOf p) key x n out) (sym own);
         })
@@ -253,20 +276,23 @@ module _ (q : BookKind) (suite : Suite) (key : List ℕ) (number : ℕ) where
 
     -- the close at its place
     close-placed : (r : ℕ)
-        → placedOutcome (kindOf q) key (bookBytes (kindOf q) suite key number us) (length us) (placeBehind (kindOf q) suite key number us) r ≡ Refused NoSuchUnit
+        → placedOutcome (kindOf q) key (bookBytes (kindOf q) suite key number us) (length us) (placeBehind (kindOf q) suite key number us) r
+        ≡ Refused NoSuchUnit
     unfolding bookBytes
     close-placed r =
         placed-there kind suite key number (b .numberFits) (b .listedSuite) us c k close-ends (b .keyLong) (length us) r
         ∙ close-outcome kind suite key number (b .numberFits) (b .keyLong) (b .keyBytes) (length us) (formed q) close-fits r
 
-    close-clear : placedClearOf (kindOf q) (length us) (placeBehind (kindOf q) suite key number us) (bookBytes (kindOf q) suite key number us) ≡ noClear NoSuchUnit
+    close-clear : placedClearOf (kindOf q) (length us) (placeBehind (kindOf q) suite key number us) (bookBytes (kindOf q) suite key number us)
+        ≡ noClear NoSuchUnit
     unfolding bookBytes
     close-clear =
         placed-clear-there kind suite key number (b .numberFits) (b .listedSuite) us c k close-ends (length us)
         ∙ ap (clearOf kind (16 + length (unitsBytes kind suite key number 0 us)) c) closed
 
 -- by the book's own kind
-module _ (q : BookKind) (suite : Suite) (key : List ℕ) (number : ℕ) (us : List BookUnit) (b : Bookable (kindOf q) suite key number us) (k : ℕ) (past : length us ≤ k) where
+module _ (q : BookKind) (suite : Suite) (key : List ℕ) (number : ℕ) (us : List BookUnit) (b : Bookable (kindOf q) suite key number us) (k : ℕ)
+    (past : length us ≤ k) where
   none-fetched : NoUnit key (bookBytes (kindOf q) suite key number us) k
   unfolding unitClear
   none-fetched =
@@ -275,11 +301,14 @@ module _ (q : BookKind) (suite : Suite) (key : List ℕ) (number : ℕ) (us : Li
       let p : BookKind = bookKind x in
       let clear : unitClearOf (kindOf p) k x ≡ noClear NoSuchUnit =
       ap (unitClearOf (kindOf p) k) (sym (own .bytes)) ∙ none-clear p suite key number us (own .bookable) k past in
+      let refused : (out : List ℕ) → (fetchAnswer key x k out ≡ FetchRefused NoSuchUnit) × (fetchBuffer key x k out ≡ out) = λ out.
+      refused-as key x k NoSuchUnit out
+      (ap (λ (y : List ℕ). fetchOutcome (kindOf p) key y k (length out)) (sym (own .bytes))
+      ∙ none-outcome p suite key number us (own .bookable) k past (length out)) in
       record {
-        refused = λ out.
-            refuses key x k NoSuchUnit out
-            (ap (λ (y : List ℕ). fetchOutcome (kindOf p) key y k (length out)) (sym (own .bytes)) ∙ none-outcome p suite key number us (own .bookable) k past (length out));
+        refused = λ out. (ap fetchTold (refused out .0), refused out .1);
         empty = sym (ap (λ (r : Part). r .len) (clear-part k x)) ∙ ap (λ (r : Clear). r .ciphertext .len) clear;
+        number = ap (λ (c : Clear). told (c .answer)) clear;
         clear = clear;
       }
 
@@ -313,9 +342,10 @@ module _ (q : BookKind) (suite : Suite) (key : List ℕ) (number : ℕ) (us : Li
       let next = nextOf (kindOf (bookKind y)) at (frameAt (kindOf (bookKind y)) (length us) (drop at y)) in
       record {
         refused = λ out. (
-          ap (λ (a : Answer). placedReport a text next) (closes-outcome (length out)),
+          ap (λ (a : Answer). placedTold (placedReport a text next)) (closes-outcome (length out)),
           ap (λ (a : Answer). written a (handedOut text) out) (closes-outcome (length out)),
         );
+        number = ap (λ (c : Clear). told (c .answer)) closes-clear;
         clear = closes-clear;
       }
 

@@ -1,28 +1,26 @@
 -- What is handed out of a unit's text, and what a call answers and leaves by its outcome.
 use mathlib.Core.Path.{_≡_, refl, sym, ap, _∙_}
 use mathlib.Core.Bool.{true, false}
-use mathlib.Core.List.{List, [], _++_}
-use Prim.Native.Nat.{ℕ, _+_, _-_, _≤_, _<_, min}
+use mathlib.Core.List.{List, [], _++_, append-assoc}
+use Prim.Native.Nat.{ℕ, _+_, _-_, _≤_, _<_}
 use native.Mathlib.Omega.{arith}
 use borrow.Author.Tests.{le-leb, lt-leb}
-use lib.Dec.{eqb, leb}
+use lib.Dec.{leb}
 use lib.ListN.{length, drop, length-append, length-drop, take-append-drop}
 use lib.Seq.{drop-drop}
 use Rattle.suites.specs.declared.refusal.Answer.{Answer}
 use Rattle.suites.specs.declared.refusal.Answer.the-variants.{Done, Refused}
 use Rattle.suites.specs.declared.refusal.Refusal.{Refusal}
-use Rattle.suites.specs.declared.refusal.Refusal.the-variants.{KeyLength, OutputTooShort, SegmentLength, NoSuchUnit}
+use Rattle.suites.specs.declared.refusal.Refusal.the-variants.{OutputTooShort, SegmentLength, NoSuchUnit}
 use Rattle.limits.specs.Tests.{unless}
-use Rattle.limits.proofs.Passed.{unless-passed}
 use Rattle.sealing.specs.Seal.{written}
 use Rattle.fields.specs.Kind.{Kind}
-use Rattle.fields.specs.Unit.{sourceLength, sourceOf, targetOf, textInRange}
-use Rattle.fields.proofs.Texts.{length-sourceOf, length-targetOf}
+use Rattle.fields.specs.Unit.{BookUnit, unitText, sourceLength, sourceOf, targetOf, textInRange}
+use Rattle.fields.proofs.Texts.{sourceOf-unitText, targetOf-unitText, length-sourceOf, length-targetOf}
 use Rattle.parser.specs.declared.frame.Frame.{Frame}
 use Rattle.parser.specs.Frame.{frameAt}
-use Rattle.parser.specs.Opening.{openingBytes, openingTests, afterOpening, checkTests}
+use Rattle.parser.specs.Opening.{openingBytes, afterOpening, checkTests}
 use Rattle.seals.specs.Seal.{unitOpened}
-use Rattle.parser.proofs.Openings.{opening-passed}
 use Rattle.walk.specs.declared.Place.{Place}
 use Rattle.fetch.specs.declared.unit.FetchAnswer.{FetchAnswer}
 use Rattle.fetch.specs.declared.unit.FetchAnswer.the-variants.{Fetched, Refused as FetchRefused}
@@ -63,11 +61,11 @@ hands-refused t out e = hands-same {t = t} out (sym e) refl (refl, refl)
 
 -- the source and the target of a text are what follows its first two bytes
 module _ (t : List ℕ) where
-  pub handed-out : handedOut t ≡ drop 2 t
+  handed-out : handedOut t ≡ drop 2 t
   unfolding sourceOf targetOf
   handed-out = ap (λ (r : List ℕ). sourceOf t ++ r) (sym (drop-drop (sourceLength t) 2 t)) ∙ take-append-drop (sourceLength t) (drop 2 t)
 
-  pub length-handed : length (handedOut t) ≡ length t - 2
+  length-handed : length (handedOut t) ≡ length t - 2
   length-handed = ap length handed-out ∙ length-drop 2 t
 
   pub source-within : textInRange (length t) (sourceLength t) ≡ true → sourceLength t ≤ length t - 2
@@ -94,6 +92,29 @@ module _ (t : List ℕ) where
           let target : length t - 2 - sourceLength t ≡ length (targetOf t) = omega (arith, length-targetOf t) in
           hands-same out (sym done) refl
           (λ i. Fetched (sym (length-sourceOf t ok) i) (target i), ap (λ r. r ++ drop (length r) out) (sym handed-out))
+
+-- of a unit's text
+module _ (u : BookUnit) (small : length (u .source) < 65536) {t : List ℕ} (text : t ≡ unitText (u .source) (u .target)) where
+  pub source-is : sourceOf t ≡ u .source
+  source-is = ap sourceOf text ∙ sourceOf-unitText (u .source) (u .target) small
+
+  pub target-is : targetOf t ≡ u .target
+  target-is = ap targetOf text ∙ targetOf-unitText (u .source) (u .target) small
+
+  pub handed-long : length (handedOut t) ≡ length (u .source) + length (u .target)
+  handed-long = (λ i. length (source-is i ++ target-is i)) ∙ length-append (u .source) (u .target)
+
+  pub handed-unit : (out : List ℕ) → written Done (handedOut t) out ≡ u .source ++ (u .target ++ drop (length (u .source) + length (u .target)) out)
+  handed-unit out =
+      (λ i. (source-is i ++ target-is i) ++ drop (handed-long i) out)
+      ∙ append-assoc (u .source) (u .target) (drop (length (u .source) + length (u .target)) out)
+
+-- where the tag is refused: the refusal, and the output stays
+pub tag-answer : (tag rest : Answer) (t : List ℕ) (why : Refusal) → tag ≡ Refused why → FetchRefused why ≡ fetchReport (andThen tag rest) t
+tag-answer tag rest t why e = ap (λ (a : Answer). fetchReport (andThen a rest) t) (sym e)
+
+pub tag-output : (tag rest : Answer) (given out : List ℕ) (why : Refusal) → tag ≡ Refused why → out ≡ written (andThen tag rest) given out
+tag-output tag rest given out why e = ap (λ (a : Answer). written (andThen a rest) given out) (sym e)
 
 -- where there is no unit the output stays
 pub none-left : (a : Answer) (out : List ℕ) → out ≡ written (andThen a (Refused NoSuchUnit)) (handedOut []) out
@@ -138,51 +159,43 @@ module _ (kind : Kind) (key s : List ℕ) (n at : ℕ) (out : List ℕ) {r : Pla
   tests-hand a e h =
       next-same out (ap (λ b. andThen b (outcomeHere kind key (openingBytes s) n (drop at s) (length out))) (sym e)) refl refl h
 
--- what follows tests matters only where they are done
-report-after : (a x y : Answer) (t u : List ℕ) (next : ℕ) → (a ≡ Done → (x ≡ y) × (t ≡ u))
-    → placedReport (andThen a x) t next ≡ withNext (fetchReport (andThen a y) u) next
-report-after Done x y t u next h = let e = h refl in (λ i. placedReport (e .0 i) (e .1 i) next) ∙ sym (report-next y u next)
-report-after (Refused why) x y t u next h = refl
+-- without that place
+report-without : (a : Answer) (t : List ℕ) (next : ℕ) → withoutNext (placedReport a t next) ≡ fetchReport a t
+report-without Done t next = refl
+report-without (Refused why) t next = refl
 
-left-after : (a x y : Answer) (t u out : List ℕ) → (a ≡ Done → (x ≡ y) × (t ≡ u)) → written (andThen a x) (handedOut t) out ≡ written (andThen a y) (handedOut u) out
-left-after Done x y t u out h = let e = h refl in λ i. written (e .0 i) (handedOut (e .1 i)) out
-left-after (Refused why) x y t u out h = refl
+pub hands-without : (a : Answer) (t out : List ℕ) {r : PlacedAnswer} {left : List ℕ} {q : FetchAnswer} (next : ℕ) → HandsNext a t next out r left
+    → q ≡ withoutNext r → Hands a t out q left
+hands-without a t out next h e = (e ∙ ap withoutNext (h .0) ∙ report-without a t next, h .1)
 
-pub without-with : (r : FetchAnswer) (next : ℕ) → withoutNext (withNext r next) ≡ r
-without-with (Fetched s t) next = refl
-without-with (FetchRefused why) next = refl
-
--- the walk begins behind the opening fields, or at the end of a book that has none; fetch gives what stands where it ends
-module _ (kind : Kind) (key s : List ℕ) (k : ℕ) (out : List ℕ) where
-  abbrev from : ℕ
-  from = min (length s) 16
-
+-- the walk to unit k begins behind the opening fields; fetch gives what stands where it ends
+module _ (kind : Kind) (key s : List ℕ) (k : ℕ) where
   abbrev pub endsAt : Place
-  endsAt = walkTo kind k (drop from s)
+  endsAt = walkTo kind k (afterOpening s)
 
-  -- where the tests are done, the opening fields are there
-  behind : checkTests (length key) s ≡ Done → drop from s ≡ afterOpening s
-  unfolding checkTests afterOpening
-  behind done =
-      let long = opening-passed s (unless-passed (eqb (length key) 16) KeyLength (openingTests s) done .1) .1 in
-      let whole : from ≡ 16 = omega arith in
-      ap (λ (a : ℕ). drop a s) whole
+  pub there : drop (16 + endsAt .at) s ≡ drop (endsAt .at) (afterOpening s)
+  unfolding afterOpening
+  there = sym (drop-drop (endsAt .at) 16 s)
 
-  there : checkTests (length key) s ≡ Done → drop (from + endsAt .at) s ≡ drop (walkTo kind k (afterOpening s) .at) (afterOpening s)
-  there done = sym (drop-drop (endsAt .at) from s) ∙ (λ i. drop (walkTo kind k (behind done i) .at) (behind done i))
+  module _ (out : List ℕ) where
+    -- by the tests before the walk
+    pub tests-fetch : {r : FetchAnswer} {left : List ℕ} (a : Answer) → checkTests (length key) s ≡ a
+        → Hands (andThen a (outcomeFrom kind key endsAt s (length out))) (textFrom kind key endsAt s) out r left
+        → (r ≡ fetchAnswerOf kind key s k out) × (left ≡ fetchBufferOf kind key s k out)
+    unfolding fetchAnswerOf fetchBufferOf fetchOutcome fetchText
+    tests-fetch a e h = hands-same out (ap (λ b. andThen b (outcomeFrom kind key endsAt s (length out))) (sym e)) refl h
 
-  same : checkTests (length key) s ≡ Done
-      → (outcomeHere kind key (openingBytes s) (endsAt .number) (drop (from + endsAt .at) s) (length out)
-      ≡ outcomeFrom kind key (walkTo kind k (afterOpening s)) s (length out))
-      × (textAt kind key (openingBytes s) (endsAt .number) (drop (from + endsAt .at) s) ≡ textFrom kind key (walkTo kind k (afterOpening s)) s)
-  same done = (
-    λ i. outcomeHere kind key (openingBytes s) (walkTo kind k (behind done i) .number) (there done i) (length out),
-    λ i. textAt kind key (openingBytes s) (walkTo kind k (behind done i) .number) (there done i),
-  )
-
-  -- with the place of what stands behind it
-  pub fetch-placed : let next = nextOf kind (from + endsAt .at) (frameAt kind (endsAt .number) (drop (from + endsAt .at) s)) in
-      (placedAnswerOf kind key s (endsAt .number) (from + endsAt .at) out ≡ withNext (fetchAnswerOf kind key s k out) next)
-      × (placedBufferOf kind key s (endsAt .number) (from + endsAt .at) out ≡ fetchBufferOf kind key s k out)
-  unfolding placedAnswerOf placedBufferOf placedOutcome placedText fetchAnswerOf fetchBufferOf fetchOutcome fetchText
-  fetch-placed = (report-after (checkTests (length key) s) _ _ _ _ _ same, left-after (checkTests (length key) s) _ _ _ _ out same)
+    -- the same as at the place where the walk ends, without the next one
+    pub fetch-placed : let next = nextOf kind (16 + endsAt .at) (frameAt kind (endsAt .number) (drop (16 + endsAt .at) s)) in
+        (placedAnswerOf kind key s (endsAt .number) (16 + endsAt .at) out ≡ withNext (fetchAnswerOf kind key s k out) next)
+        × (placedBufferOf kind key s (endsAt .number) (16 + endsAt .at) out ≡ fetchBufferOf kind key s k out)
+    unfolding placedAnswerOf placedBufferOf placedOutcome placedText fetchAnswerOf fetchBufferOf fetchOutcome fetchText
+    fetch-placed =
+        let next = nextOf kind (16 + endsAt .at) (frameAt kind (endsAt .number) (drop (16 + endsAt .at) s)) in
+        let tests = checkTests (length key) s in
+        let outcome : List ℕ → Answer = λ y. andThen tests (outcomeHere kind key (openingBytes s) (endsAt .number) y (length out)) in
+        let text : List ℕ → List ℕ = λ y. textAt kind key (openingBytes s) (endsAt .number) y in (
+          (λ i. placedReport (outcome (there i)) (text (there i)) next)
+              ∙ sym (report-next (andThen tests (outcomeFrom kind key endsAt s (length out))) (textFrom kind key endsAt s) next),
+          λ i. written (outcome (there i)) (handedOut (text (there i))) out,
+        )

@@ -5,3 +5,4 @@ pub mod Written
 pub mod Reached
 pub mod Arrived
 pub mod Exact
+pub mod Any

@@ -84,7 +84,8 @@ module _ (kind : Kind) (suite : Suite) (key : List ℕ) (number : ℕ) where
         ∙ ap (λ (r : Place). walkOn kind k r s) (past-more p u us a)
 
     -- behind the opening fields: the place behind the units
-    module _ (us : List BookUnit) (rest : List ℕ) (each : EachFrom (Allowed kind) 0 us) (few : length us ≤ mostUnits) (fits : length us ≤ 256 ^ kind .numberBytes) where
+    module _ (us : List BookUnit) (rest : List ℕ) (each : EachFrom (Allowed kind) 0 us) (few : length us ≤ mostUnits)
+        (fits : length us ≤ 256 ^ kind .numberBytes) where
       walk-on : (k : ℕ) → walkTo kind (length us + k) (unitsBytes kind suite key number 0 us ++ rest)
           ≡ walkOn kind k (endPlace us) (unitsBytes kind suite key number 0 us ++ rest)
       unfolding walkTo
@@ -99,7 +100,8 @@ module _ (kind : Kind) (suite : Suite) (key : List ℕ) (number : ℕ) where
       walk-ends = ap (λ (k : ℕ). walkTo kind k (unitsBytes kind suite key number 0 us ++ rest)) (sym (add-zero (length us))) ∙ walk-on 0
 
       -- a close stands there, and the walk was to go further
-      pub walk-closes : frameAt kind (length us) rest ≡ Close → (k : ℕ) → length us ≤ k → walkTo kind k (unitsBytes kind suite key number 0 us ++ rest) ≡ endPlace us
+      pub walk-closes : frameAt kind (length us) rest ≡ Close → (k : ℕ) → length us ≤ k
+          → walkTo kind k (unitsBytes kind suite key number 0 us ++ rest) ≡ endPlace us
       walk-closes e k h =
           let units = unitsBytes kind suite key number 0 us in
           let steps : k ≡ length us + (k - length us) = omega arith in

@@ -44,13 +44,13 @@ module _ (k : BookKind) (key o : List ℕ) (n : ℕ) (under : Under key o) (m : 
   unitTag =
       verifyOutcome (openingSuite o .cipher) (openingSuite o .steps) key (nonceOf (openingNumber o) n) (unitAlong (kindOf k) o s) (frameSealed (kindOf k) m s)
 
-  pub unit-differs : (why : Refusal) (r : ℕ) → unitTag ≡ Refused why → Refused why ≡ unitOutcome (kindOf k) key o n m s r
+  unit-differs : (why : Refusal) (r : ℕ) → unitTag ≡ Refused why → Refused why ≡ unitOutcome (kindOf k) key o n m s r
   unfolding verifyAnswer unitOpened unitOutcome
   unit-differs why r e =
       let text = unitOpened (kindOf k) key o n m s in
       ap (λ (a : Answer). andThen a (roomTest text r)) (unit-refused k key o n under m s told why (ap (λ (a : Answer). verifyReport a text) e))
 
-  pub unit-agreed : (r : ℕ) → unitTag ≡ Done → textOutcome (unitOpened (kindOf k) key o n m s) r ≡ unitOutcome (kindOf k) key o n m s r
+  unit-agreed : (r : ℕ) → unitTag ≡ Done → textOutcome (unitOpened (kindOf k) key o n m s) r ≡ unitOutcome (kindOf k) key o n m s r
   unfolding textOutcome unitOutcome unitSealTests unitAgrees
   unit-agreed r e =
       let text = unitOpened (kindOf k) key o n m s in
@@ -62,11 +62,18 @@ module _ (k : BookKind) (key o : List ℕ) (n : ℕ) (under : Under key o) (m : 
       ∙ range-first (textInRange m (sourceLength text)) (roomTest text r)
       ∙ ap (λ (v : Bool). andThen (unless v TagDiffers (unless (textInRange m (sourceLength text)) SegmentLength Done)) (roomTest text r)) (sym (tag .0))
 
+  -- by that answer: then the text's range, and the room for it
+  pub unit-by : (tag : Answer) (r : ℕ) → unitTag ≡ tag → andThen tag (textOutcome (unitOpened (kindOf k) key o n m s) r) ≡ unitOutcome (kindOf k) key o n m s r
+  unit-by Done r e = unit-agreed r e
+  unit-by (Refused why) r e = unit-differs why r e
+
   -- and what it leaves there
   pub unit-held : (work : List ℕ) → m ≤ length work
-      → take m (withinBuffer (openingSuite o .cipher) (openingSuite o .steps) key (nonceOf (openingNumber o) n) (unitAlong (kindOf k) o s) (frameSealed (kindOf k) m s) work)
+      → take m (withinBuffer (openingSuite o .cipher) (openingSuite o .steps) key (nonceOf (openingNumber o) n) (unitAlong (kindOf k) o s)
+      (frameSealed (kindOf k) m s) work)
       ≡ unitOpened (kindOf k) key o n m s
   unfolding unitOpened
   unit-held work room =
-      ap (take m) (sym (within-buffer (openingSuite o) key (nonceOf (openingNumber o) n) (unitAlong (kindOf k) o s) (frameSealed (kindOf k) m s) work Done (unit-tested k key o n under m s told)))
+      ap (take m) (sym (within-buffer (openingSuite o) key (nonceOf (openingNumber o) n) (unitAlong (kindOf k) o s) (frameSealed (kindOf k) m s) work Done
+      (unit-tested k key o n under m s told)))
       ∙ held-front m (unitOpened (kindOf k) key o n m s) work (unit-opened-long k key o n under m s told) room

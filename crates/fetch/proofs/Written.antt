@@ -35,7 +35,8 @@ module _ (kind : Kind) (key o : List ℕ) (n : ℕ) (s : List ℕ) where
   unfolding textAt
   text-by f e = λ i. frameText (e i) (λ (m : ℕ). unitOpened kind key o n m s)
 
-module _ (kind : Kind) (suite : Suite) (key : List ℕ) (number : ℕ) (fit : number < 2 ^ 64) (long : length key ≡ 16) (keyBytes : Bytes key) (n : ℕ) (wf : WellFormed kind)
+module _ (kind : Kind) (suite : Suite) (key : List ℕ) (number : ℕ) (fit : number < 2 ^ 64) (long : length key ≡ 16) (keyBytes : Bytes key) (n : ℕ)
+    (wf : WellFormed kind)
     (fits : n < 256 ^ kind .numberBytes) where
   -- the book's opening fields, and what they say
   abbrev o : List ℕ
@@ -55,7 +56,8 @@ module _ (kind : Kind) (suite : Suite) (key : List ℕ) (number : ℕ) (fit : nu
     s = unitBytes kind suite key number n u ++ rest
 
     -- the unit's bytes, under what the opening fields say
-    same : unitBytes kind suite key number n u ++ rest ≡ unitBytes kind (openingSuite (openingFields suite number)) key (openingNumber (openingFields suite number)) n u ++ rest
+    same : unitBytes kind suite key number n u ++ rest
+        ≡ unitBytes kind (openingSuite (openingFields suite number)) key (openingNumber (openingFields suite number)) n u ++ rest
     same = λ i. unitBytes kind (sym (says .0) i) key (sym (says .1) i) n u ++ rest
 
     unit-both : (frameAt kind n s ≡ Unit (length t)) × (unitSealTests kind key o n (length t) s ≡ Done)

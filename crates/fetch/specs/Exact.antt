@@ -5,8 +5,9 @@ use mathlib.Core.List.{List, [], _∷_, _++_}
 use Prim.Native.Nat.{ℕ, _+_, _≤_, _<_}
 use lib.ListN.{length, take, drop}
 use Rattle.suites.specs.declared.refusal.Answer.the-variants.{Done}
-use Rattle.suites.specs.declared.refusal.Refusal.the-variants.{OutputTooShort, NoSuchUnit}
+use Rattle.suites.specs.declared.refusal.Refusal.the-variants.{NoSuchUnit}
 use Rattle.suites.specs.declared.suite.Suite.{Suite}
+use Rattle.suites.specs.Told.{gives, refuses, told}
 use Rattle.fields.specs.Field.{fieldHead}
 use Rattle.fields.specs.Kind.{Kind}
 use Rattle.fields.specs.Unit.{BookUnit, detailsOf, unitText}
@@ -17,30 +18,29 @@ use Rattle.format.specs.Sealings.{openingFields, unitHeader, unitSealing, seale
 use Rattle.walk.specs.declared.clear.Clear.{Clear}
 use Rattle.walk.specs.Ciphertext.{ciphertextPlace, ciphertextPart}
 use Rattle.walk.specs.Clear.{codeOf, noClear, placedClear, unitClear}
-use Rattle.fetch.specs.declared.unit.FetchAnswer.the-variants.{Fetched, Refused}
-use Rattle.fetch.specs.declared.unit.PlacedAnswer.the-variants.{Refused as PlacedRefused}
-use Rattle.fetch.specs.Fetch.{fetchAnswer, fetchBuffer, placedAnswer, placedBuffer}
-use Rattle.fetch.specs.Hands.{withNext}
+use Rattle.fetch.specs.Fetch.{fetchAnswer, fetchTold, fetchBuffer, placedAnswer, placedTold, placedBuffer}
 
 -- fetch of k from the string x hands out the unit u: its source and target at the output's start, and their lengths
 pub record HandsOut (key x : List ℕ) (k : ℕ) (u : BookUnit) : Type 0 where
   pub answer : (out : List ℕ) → length (u .source) + length (u .target) ≤ length out
-      → fetchAnswer key x k out ≡ Fetched (length (u .source)) (length (u .target))
+      → fetchTold (fetchAnswer key x k out) ≡ gives (length (u .source) ∷ length (u .target) ∷ [])
   pub output : (out : List ℕ) → length (u .source) + length (u .target) ≤ length out
       → fetchBuffer key x k out ≡ u .source ++ (u .target ++ drop (length (u .source) + length (u .target)) out)
   -- "output too short for the result: 7"
   pub short : (out : List ℕ) → length out < length (u .source) + length (u .target)
-      → (fetchAnswer key x k out ≡ Refused OutputTooShort) × (fetchBuffer key x k out ≡ out)
+      → (fetchTold (fetchAnswer key x k out) ≡ refuses 7) × (fetchBuffer key x k out ≡ out)
 
 -- "no unit k: 16", and the output stays; the ciphertext part is empty, and nothing is said in the clear
 pub record NoUnit (key x : List ℕ) (k : ℕ) : Type 0 where
-  pub refused : (out : List ℕ) → (fetchAnswer key x k out ≡ Refused NoSuchUnit) × (fetchBuffer key x k out ≡ out)
+  pub refused : (out : List ℕ) → (fetchTold (fetchAnswer key x k out) ≡ refuses 16) × (fetchBuffer key x k out ≡ out)
   pub empty : ciphertextPlace k x .len ≡ 0
+  pub number : told (unitClear k x .answer) ≡ refuses 16
   pub clear : unitClear k x ≡ noClear NoSuchUnit
 
 -- the same at the close's place, where n units stand before it: who goes from unit to unit ends there
 pub record ClosesAt (key x : List ℕ) (n at : ℕ) : Type 0 where
-  pub refused : (out : List ℕ) → (placedAnswer key x n at out ≡ PlacedRefused NoSuchUnit) × (placedBuffer key x n at out ≡ out)
+  pub refused : (out : List ℕ) → (placedTold (placedAnswer key x n at out) ≡ refuses 16) × (placedBuffer key x n at out ≡ out)
+  pub number : told (placedClear n at x .answer) ≡ refuses 16
   pub clear : placedClear n at x ≡ noClear NoSuchUnit
 
 -- the ciphertext part is the value of field 11 of the unit u: the ciphertext of its sealing, and it stands behind the units before it, the
@@ -58,9 +58,11 @@ placeBehind kind suite key number before = 16 + length (unitsBytes kind suite ke
 
 -- the same is handed out at the place where the unit stands, with the place where the next one stands
 pub record StandsAt (kind : Kind) (suite : Suite) (key : List ℕ) (number : ℕ) (before : List BookUnit) (u : BookUnit) (x : List ℕ) : Type 0 where
-  pub answer : (out : List ℕ)
-      → placedAnswer key x (length before) (placeBehind kind suite key number before) out
-      ≡ withNext (fetchAnswer key x (length before) out) (placeBehind kind suite key number (before ++ u ∷ []))
+  pub answer : (out : List ℕ) → length (u .source) + length (u .target) ≤ length out
+      → placedTold (placedAnswer key x (length before) (placeBehind kind suite key number before) out)
+      ≡ gives (length (u .source) ∷ length (u .target) ∷ placeBehind kind suite key number (before ++ u ∷ []) ∷ [])
+  pub short : (out : List ℕ) → length out < length (u .source) + length (u .target)
+      → placedTold (placedAnswer key x (length before) (placeBehind kind suite key number before) out) ≡ refuses 7
   pub output : (out : List ℕ)
       → placedBuffer key x (length before) (placeBehind kind suite key number before) out ≡ fetchBuffer key x (length before) out
 
@@ -76,8 +78,10 @@ unitSays kind suite key number before u x =
       next = placeBehind kind suite key number (before ++ u ∷ []);
     }
 
--- by a walk, and at its place
+-- by a walk, and at its place, without a refusal
 pub record SaysClear (kind : Kind) (suite : Suite) (key : List ℕ) (number : ℕ) (before : List BookUnit) (u : BookUnit) (x : List ℕ) : Type 0 where
+  pub done : (told (unitClear (length before) x .answer) ≡ gives [])
+      × (told (placedClear (length before) (placeBehind kind suite key number before) x .answer) ≡ gives [])
   pub walked : unitClear (length before) x ≡ unitSays kind suite key number before u x
   pub placed : placedClear (length before) (placeBehind kind suite key number before) x ≡ unitSays kind suite key number before u x
 

@@ -1,3 +1,4 @@
 pub mod Fetch
 pub mod Hands
 pub mod Exact
+pub mod Any

@@ -6,14 +6,16 @@ use suites::refusal::Refusal;
 ghost use mathlib.Core.List.{[]};
 ghost use mathlib.Core.Path.{_≡_};
 ghost use Prim.Native.Nat.{_+_, _^_, _≤_, _<_};
-ghost use lib.ListN.{length};
-ghost use Rattle.suites.specs.declared.refusal.Answer.the-variants.{Refused};
+ghost use lib.ListN.{length, drop};
+ghost use Rattle.suites.specs.declared.refusal.Answer.the-variants.{Done, Refused};
 ghost use Rattle.suites.specs.declared.refusal.Refusal.the-variants.{NoSuchUnit};
 ghost use Rattle.kinds.specs.Kind.{kindOf};
 ghost use Rattle.parser.specs.Frame.{frameAt};
+ghost use Rattle.parser.specs.Opening.{openingBytes, checkTests};
 ghost use Rattle.seals.specs.Parts.{Under};
 ghost use Rattle.seals.specs.Seal.{unitOpened};
-ghost use Rattle.fetch.specs.Fetch.{andThen, textOutcome, unitOutcome, outcomeHere, textAt, fetchAnswer, fetchBuffer, nextOf, placedReport, placedAnswer, placedBuffer};
+ghost use Rattle.fetch.specs.Fetch.{andThen, textOutcome, unitOutcome, outcomeHere, textAt, nextOf, placedReport};
+ghost use Rattle.fetch.specs.Fetch.{fetchAnswer, fetchBuffer, placedAnswer, placedBuffer};
 ghost use Rattle.fetch.specs.Hands.{Hands, HandsNext, withNext, withoutNext};
 
 // The lengths of source and target, or the refusal.
@@ -47,6 +49,19 @@ fn hand_out(text: &[u8], out: &mut [u8]) -> FetchAnswer
     FetchAnswer::Fetched(s, m - 2 - s)
 }
 
+// The same of a text that was deciphered, once its tag has been compared. Refusals: the tag's, 12, 7.
+fn if_agreed(tag: Answer, text: &[u8], out: &mut [u8]) -> FetchAnswer
+    requires { ⌜ 2 ≤ length (now text) ⌝ }
+    ensures { λ r. ⌜ Hands
+        (andThen tag (textOutcome (now (text .entry)) (length (now (out .entry)))))
+        (now (text .entry)) (now (out .entry)) r (now (out .exit)) ⌝ }
+{
+    match tag {
+        Answer::Refused(why) => FetchAnswer::Refused(why),
+        Answer::Done => hand_out(text, out),
+    }
+}
+
 // The unit at the start of s, whose ciphertext has m bytes. It is deciphered once, in a working buffer, and nothing is handed out before its
 // tag has been compared. Refusals: 8, 12, 7.
 fn unit(
@@ -58,7 +73,8 @@ fn unit(
     s: &[u8],
     out: &mut [u8],
 ) -> FetchAnswer
-    requires { ⌜ Under (now key) (now front) × (frameAt (kindOf kind) n (now s) ≡ Frame.Unit m) ⌝ }
+    requires { ⌜ Under (now key) (now front)
+        × (frameAt (kindOf kind) n (now s) ≡ Frame.Unit m) ⌝ }
     ensures { λ r. ⌜ Hands
         (unitOutcome (kindOf kind) (now (key .entry)) (now (front .entry)) n m (now (s .entry)) (length (now (out .entry))))
         (unitOpened (kindOf kind) (now (key .entry)) (now (front .entry)) n m (now (s .entry)))
@@ -82,10 +98,7 @@ fn unit(
         tag,
         &mut text,
     );
-    match answer {
-        Answer::Refused(why) => FetchAnswer::Refused(why),
-        Answer::Done => hand_out(&text[..m], out),
-    }
+    if_agreed(answer, &text[..m], out)
 }
 
 // The refusal of the close where a unit was looked for. Refusals: the close's, else 16.
@@ -128,7 +141,8 @@ fn fetch_frame(
     s: &[u8],
     out: &mut [u8],
 ) -> PlacedAnswer
-    requires { ⌜ Under (now key) (now front) × (at + length (now s) < 2 ^ 64) ⌝ }
+    requires { ⌜ Under (now key) (now front)
+        × (at + length (now s) < 2 ^ 64) ⌝ }
     ensures { λ r. ⌜ HandsNext
         (outcomeHere (kindOf kind) (now (key .entry)) (now (front .entry)) n (now (s .entry)) (length (now (out .entry))))
         (textAt (kindOf kind) (now (key .entry)) (now (front .entry)) n (now (s .entry)))
@@ -146,6 +160,19 @@ fn fetch_frame(
     }
 }
 
+// What stands at byte `at` of a book whose key and opening fields are tested, as unit n; past the end nothing. Refusals: those of fetch_frame.
+fn at_place(kind: Kind, key: &[u8], book: &[u8], n: u64, at: usize, out: &mut [u8]) -> PlacedAnswer
+    requires { ⌜ checkTests (length (now key)) (now book) ≡ Done ⌝ }
+    ensures { λ r. ⌜ HandsNext
+        (outcomeHere (kindOf kind) (now (key .entry)) (openingBytes (now (book .entry))) n (drop at (now (book .entry))) (length (now (out .entry))))
+        (textAt (kindOf kind) (now (key .entry)) (openingBytes (now (book .entry))) n (drop at (now (book .entry))))
+        (nextOf (kindOf kind) at (frameAt (kindOf kind) n (drop at (now (book .entry)))))
+        (now (out .entry)) r (now (out .exit)) ⌝ }
+{
+    let from = sealing::counts::lesser(at, book.len());
+    fetch_frame(kind, key, &book[..16], n, at, &book[from..], out)
+}
+
 // Source and target of unit n at the output's start, where its header stands at byte `at` of the book; every other byte stays as it was. It is for
 // a caller that goes from one unit to the next. Refusals: 2; 14, 1; of a unit 14, 13, 15, 11, 14, 8, 12, then 7; of a close 14, 15, 8, 14, then
 // 16.
@@ -156,24 +183,24 @@ pub fn fetch_placed(key: &[u8], book: &[u8], n: u64, at: usize, out: &mut [u8]) 
     let tested = parser::opening::tests_under(key, book);
     match tested {
         Answer::Refused(why) => PlacedAnswer::Refused(why),
-        Answer::Done => {
-            let kind = Kind::of_book(book);
-            let from = sealing::counts::lesser(at, book.len());
-            fetch_frame(kind, key, &book[..16], n, at, &book[from..], out)
-        }
+        Answer::Done => at_place(Kind::of_book(book), key, book, n, at, out),
     }
 }
 
-// The same of unit k, to which it walks. Refusals: 2; 14, 1; of each unit before k 14, 13, 15,
+// The same of unit k, to which it walks once the key and the opening fields are tested. Refusals: 2; 14, 1; of each unit before k 14, 13, 15,
 // 11, 14; of unit k these, 8, 12, then 7; of the close 14, 15, 8, 14, then 16.
 pub fn fetch(key: &[u8], book: &[u8], k: u64, out: &mut [u8]) -> FetchAnswer
     ensures { λ r. ⌜ (r ≡ fetchAnswer (now (key .entry)) (now (book .entry)) k (now (out .entry)))
         × (now (out .exit) ≡ fetchBuffer (now (key .entry)) (now (book .entry)) k (now (out .entry))) ⌝ }
 {
-    let kind = Kind::of_book(book);
-    let from = sealing::counts::lesser(book.len(), 16);
-    let p = walk::to(kind, k, &book[from..]);
-    let at = p.at;
-    let answer = fetch_placed(key, book, p.number, from + at, out);
-    without_next(answer)
+    let tested = parser::opening::tests_under(key, book);
+    match tested {
+        Answer::Refused(why) => FetchAnswer::Refused(why),
+        Answer::Done => {
+            let kind = Kind::of_book(book);
+            let p = walk::to(kind, k, &book[16..]);
+            let at = p.at;
+            without_next(at_place(kind, key, book, p.number, 16 + at, out))
+        }
+    }
 }

@@ -4,3 +4,4 @@ pub mod Fields
 pub mod Texts
 pub mod Languages
 pub mod Details
+pub mod Pair

@@ -84,11 +84,14 @@ module _ (suite : Suite) (key nonce header : List ℕ) (m : ℕ) (out : List ℕ
   done =
       seal-passes (suite .cipher) (suite .steps) (length key) (length nonce) (length header) m (length out)
       (record {
-        suite = s .listedSuite;
-        key = long;
-        nonce = omega (arith, s .nonceLong);
-        short = omega (arith, s .nonceLong);
-        header = rw (header-limit (s .nonceLong)) (s .headerShort);
+        inputs =
+            record {
+              suite = s .listedSuite;
+              key = long;
+              nonce = omega (arith, s .nonceLong);
+              short = omega (arith, s .nonceLong);
+              header = rw (header-limit (s .nonceLong)) (s .headerShort);
+            };
         text = rw (text-limit (s .nonceLong)) (s .textShort);
         room = room;
       })

@@ -47,7 +47,7 @@ pub record Inputs (cipher steps k n a : ℕ) : Type 0 where
   pub header : a ≤ headerLimit n
 
 module _ (cipher steps k n a : ℕ) (rest : Answer) where
-  pub inputs-passed : inputTests cipher steps k n a rest ≡ Done → Inputs cipher steps k n a × (rest ≡ Done)
+  inputs-passed : inputTests cipher steps k n a rest ≡ Done → Inputs cipher steps k n a × (rest ≡ Done)
   unfolding inputTests
   inputs-passed e =
       let suite = unless-passed (listed cipher steps) SuiteNotListed _ e in
@@ -65,7 +65,7 @@ module _ (cipher steps k n a : ℕ) (rest : Answer) where
         header .1,
       )
 
-  pub inputs-passes : Inputs cipher steps k n a → rest ≡ Done → inputTests cipher steps k n a rest ≡ Done
+  inputs-passes : Inputs cipher steps k n a → rest ≡ Done → inputTests cipher steps k n a rest ≡ Done
   unfolding inputTests
   inputs-passes i d =
       unless-passes (listed cipher steps) SuiteNotListed _ (i .suite)
@@ -74,11 +74,7 @@ module _ (cipher steps k n a : ℕ) (rest : Answer) where
       (unless-passes (leb a (headerLimit n)) HeaderTooLong rest (le-leb a (headerLimit n) (i .header)) d)))
 
 pub record Sealable (cipher steps k n a m o : ℕ) : Type 0 where
-  pub suite : listed cipher steps ≡ true
-  pub key : k ≡ 16
-  pub nonce : 1 ≤ n
-  pub short : n ≤ 15
-  pub header : a ≤ headerLimit n
+  pub inputs : Inputs cipher steps k n a
   pub text : m ≤ textLimit n
   pub room : m + 16 ≤ o
 
@@ -89,57 +85,33 @@ module _ (cipher steps k n a m o : ℕ) where
       let input = inputs-passed cipher steps k n a _ e in
       let text = unless-passed (leb m (textLimit n)) TextTooLong _ (input .1) in
       let room = unless-passed (leb (m + 16) o) OutputTooShort Done (text .1) in
-      record {
-        suite = input .0 .suite;
-        key = input .0 .key;
-        nonce = input .0 .nonce;
-        short = input .0 .short;
-        header = input .0 .header;
-        text = leb-true m (textLimit n) (text .0);
-        room = leb-true (m + 16) o (room .0);
-      }
+      record { inputs = input .0; text = leb-true m (textLimit n) (text .0); room = leb-true (m + 16) o (room .0) }
 
   pub seal-passes : Sealable cipher steps k n a m o → sealTests cipher steps k n a m o ≡ Done
   unfolding sealTests
   seal-passes s =
-      inputs-passes cipher steps k n a _
-      (record { suite = s .suite; key = s .key; nonce = s .nonce; short = s .short; header = s .header })
+      inputs-passes cipher steps k n a _ (s .inputs)
       (unless-passes (leb m (textLimit n)) TextTooLong _ (le-leb m (textLimit n) (s .text))
       (unless-passes (leb (m + 16) o) OutputTooShort Done (le-leb (m + 16) o (s .room)) refl))
 
 pub record Verifiable (cipher steps k n a s : ℕ) : Type 0 where
-  pub suite : listed cipher steps ≡ true
-  pub key : k ≡ 16
-  pub nonce : 1 ≤ n
-  pub short : n ≤ 15
-  pub header : a ≤ headerLimit n
+  pub inputs : Inputs cipher steps k n a
   pub long : 16 ≤ s
   pub text : s - 16 ≤ textLimit n
 
 module _ (cipher steps k n a s : ℕ) (rest : Answer) where
-  pub sealed-passed : sealedTests cipher steps k n a s rest ≡ Done → Verifiable cipher steps k n a s × (rest ≡ Done)
+  sealed-passed : sealedTests cipher steps k n a s rest ≡ Done → Verifiable cipher steps k n a s × (rest ≡ Done)
   unfolding sealedTests
   sealed-passed e =
       let input = inputs-passed cipher steps k n a _ e in
       let long = unless-passed (leb 16 s) SealedTooShort _ (input .1) in
-      let text = unless-passed (leb (s - 16) (textLimit n)) TextTooLong rest (long .1) in (
-        record {
-          suite = input .0 .suite;
-          key = input .0 .key;
-          nonce = input .0 .nonce;
-          short = input .0 .short;
-          header = input .0 .header;
-          long = leb-true 16 s (long .0);
-          text = leb-true (s - 16) (textLimit n) (text .0);
-        },
-        text .1,
-      )
+      let text = unless-passed (leb (s - 16) (textLimit n)) TextTooLong rest (long .1) in
+      (record { inputs = input .0; long = leb-true 16 s (long .0); text = leb-true (s - 16) (textLimit n) (text .0) }, text .1)
 
-  pub sealed-passes : Verifiable cipher steps k n a s → rest ≡ Done → sealedTests cipher steps k n a s rest ≡ Done
+  sealed-passes : Verifiable cipher steps k n a s → rest ≡ Done → sealedTests cipher steps k n a s rest ≡ Done
   unfolding sealedTests
   sealed-passes v d =
-      inputs-passes cipher steps k n a _
-      (record { suite = v .suite; key = v .key; nonce = v .nonce; short = v .short; header = v .header })
+      inputs-passes cipher steps k n a _ (v .inputs)
       (unless-passes (leb 16 s) SealedTooShort _ (le-leb 16 s (v .long))
       (unless-passes (leb (s - 16) (textLimit n)) TextTooLong rest (le-leb (s - 16) (textLimit n) (v .text)) d))
 
@@ -153,13 +125,7 @@ module _ (cipher steps k n a s : ℕ) where
   verify-passes v = sealed-passes cipher steps k n a s Done v refl
 
 pub record Openable (cipher steps k n a s o : ℕ) : Type 0 where
-  pub suite : listed cipher steps ≡ true
-  pub key : k ≡ 16
-  pub nonce : 1 ≤ n
-  pub short : n ≤ 15
-  pub header : a ≤ headerLimit n
-  pub long : 16 ≤ s
-  pub text : s - 16 ≤ textLimit n
+  pub sealed : Verifiable cipher steps k n a s
   pub room : s - 16 ≤ o
 
 module _ (cipher steps k n a s o : ℕ) where
@@ -168,20 +134,9 @@ module _ (cipher steps k n a s o : ℕ) where
   open-passed e =
       let sealed = sealed-passed cipher steps k n a s _ e in
       let room = unless-passed (leb (s - 16) o) OutputTooShort Done (sealed .1) in
-      record {
-        suite = sealed .0 .suite;
-        key = sealed .0 .key;
-        nonce = sealed .0 .nonce;
-        short = sealed .0 .short;
-        header = sealed .0 .header;
-        long = sealed .0 .long;
-        text = sealed .0 .text;
-        room = leb-true (s - 16) o (room .0);
-      }
+      record { sealed = sealed .0; room = leb-true (s - 16) o (room .0) }
 
   pub open-passes : Openable cipher steps k n a s o → openTests cipher steps k n a s o ≡ Done
   unfolding openTests
   open-passes v =
-      sealed-passes cipher steps k n a s _
-      (record { suite = v .suite; key = v .key; nonce = v .nonce; short = v .short; header = v .header; long = v .long; text = v .text })
-      (unless-passes (leb (s - 16) o) OutputTooShort Done (le-leb (s - 16) o (v .room)) refl)
+      sealed-passes cipher steps k n a s _ (v .sealed) (unless-passes (leb (s - 16) o) OutputTooShort Done (le-leb (s - 16) o (v .room)) refl)

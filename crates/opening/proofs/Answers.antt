@@ -1,20 +1,17 @@
 -- The answers of `open`, by what its tests say.
 use mathlib.Core.Path.{_≡_, sym, ap}
-use mathlib.Core.Bool.{true}
 use mathlib.Core.List.{List}
 use Prim.Native.Nat.{ℕ, _-_, _≤_}
 use native.Mathlib.Nat.{le-trans}
 use native.Mathlib.Omega.{arith}
 use lib.ListN.{length}
 use lib.Seq.{length-take-le}
-use Rattle.suites.specs.Suite.{listed}
 use Rattle.suites.specs.declared.refusal.Answer.{Answer}
 use Rattle.suites.specs.declared.refusal.Answer.the-variants.{Done, Refused}
 use Rattle.suites.specs.declared.refusal.Refusal.{Refusal}
 use Rattle.suites.specs.declared.suite.Suite.{Suite}
-use Rattle.limits.specs.Limits.{headerLimit, textLimit}
 use Rattle.limits.specs.Tests.{openTests}
-use Rattle.limits.proofs.Passed.{open-passed, header-limit-most, text-limit-most}
+use Rattle.limits.proofs.Passed.{Verifiable, open-passed, header-limit-most, text-limit-most}
 use Rattle.text_blocks.specs.Text.{Usable}
 use Rattle.opening.specs.Open.{ciphertext, opened, agrees, thenTag, byTag, openOutcome, openReport, openAnswer, openBuffer}
 use Rattle.sealing.specs.Passes.{Passable}
@@ -28,16 +25,17 @@ pub record Ready (s : Suite) (key nonce h x : List ℕ) : Type 0 where
   pub text : Passable s nonce (ciphertext x)
   pub long : 16 ≤ length x
 
-pub ready : (s : Suite) (key nonce h x : List ℕ) → listed (s .cipher) (s .steps) ≡ true → length key ≡ 16 → length nonce ≤ 15
-    → length h ≤ headerLimit (length nonce) → 16 ≤ length x → length x - 16 ≤ textLimit (length nonce) → Ready s key nonce h x
-ready s key nonce h x suite whole short header long text =
-    let u : Usable s nonce = record { suite = suite; short = short } in
+pub ready : (s : Suite) (key nonce h x : List ℕ) → Verifiable (s .cipher) (s .steps) (length key) (length nonce) (length h) (length x)
+    → Ready s key nonce h x
+ready s key nonce h x v =
+    let i = v .inputs in
+    let u : Usable s nonce = record { suite = i .suite; short = i .short } in
     let m : length (ciphertext x) ≡ length x - 16 = length-take-le (length x - 16) x (omega arith) in
     record {
-      whole = whole;
-      header = record { usable = u; small = le-trans header (header-limit-most (length nonce)) };
-      text = record { usable = u; small = rw m (le-trans text (text-limit-most (length nonce))) };
-      long = long;
+      whole = i .key;
+      header = record { usable = u; small = le-trans (i .header) (header-limit-most (length nonce)) };
+      text = record { usable = u; small = rw m (le-trans (v .text) (text-limit-most (length nonce))) };
+      long = v .long;
     }
 
 module _ (s : Suite) (key nonce h x out : List ℕ) where
@@ -56,8 +54,7 @@ module _ (s : Suite) (key nonce h x out : List ℕ) where
   module _ (e : tests ≡ Done) where
     pub open-ready : Ready s key nonce h x
     open-ready =
-        let p = open-passed (s .cipher) (s .steps) (length key) (length nonce) (length h) (length x) (length out) e in
-        ready s key nonce h x (p .suite) (p .key) (p .short) (p .header) (p .long) (p .text)
+        ready s key nonce h x (open-passed (s .cipher) (s .steps) (length key) (length nonce) (length h) (length x) (length out) e .sealed)
 
     pub open-room : length x - 16 ≤ length out
     open-room = open-passed (s .cipher) (s .steps) (length key) (length nonce) (length h) (length x) (length out) e .room

@@ -120,7 +120,7 @@ module _ (u : Context) (key-bytes : Bytes (u .key)) (nonce-bytes : Bytes (u .non
 
     text-long : length text ≡ length s - 16
     unfolding S text
-    text-long = opened-long S (u .key) (u .nonce) (u .header) s out (p .short) ∙ length-take-le (length s - 16) s (omega arith)
+    text-long = opened-long S (u .key) (u .nonce) (u .header) s out (p .sealed .inputs .short) ∙ length-take-le (length s - 16) s (omega arith)
 
     -- the answer and the output, by what the comparison said
     answer : (v : Bool) → A ≡ v → openReport (thenTag Done v) (length s - 16) ≡ openAnswer (u .cipher) (u .steps) (u .key) (u .nonce) (u .header) s out
@@ -159,11 +159,11 @@ module _ (u : Context) (key-bytes : Bytes (u .key)) (nonce-bytes : Bytes (u .non
 
     image-accepted : (t : List ℕ) → Bytes t → image u t ≡ s → Accepts u s out t
     unfolding A text
-    image-accepted t bt q = let o = image-agrees s (p .key) (p .short) t bt q in accepted t (o .0) (o .1)
+    image-accepted t bt q = let o = image-agrees s (p .sealed .inputs .key) (p .sealed .inputs .short) t bt q in accepted t (o .0) (o .1)
 
     accepted-image : (t : List ℕ) → Bytes s → Accepts u s out t → Bytes t × (image u t ≡ s)
     unfolding A text
-    accepted-image t bs a = agrees-image s (p .key) (p .short) t (p .long) bs (agreed t a .0) (agreed t a .1)
+    accepted-image t bs a = agrees-image s (p .sealed .inputs .key) (p .sealed .inputs .short) t (p .sealed .long) bs (agreed t a .0) (agreed t a .1)
 
   sealable-done : (t out : List ℕ) → Sealable u t out → sealOutcome (u .cipher) (u .steps) (u .key) (u .nonce) (u .header) t out ≡ Done
   unfolding sealAnswer
@@ -176,26 +176,17 @@ module _ (u : Context) (key-bytes : Bytes (u .key)) (nonce-bytes : Bytes (u .non
   image-openable t out room sealable h =
       let done = sealable-done t out sealable in
       let q = seal-passed (u .cipher) (u .steps) (length (u .key)) (length (u .nonce)) (length (u .header)) (length t) (length out) done in
-      let l = image-long (q .short) t in
+      let l = image-long (q .inputs .short) t in
       let m : length (image u t) - 16 ≡ length t = omega arith in
       ap (λ (a : Answer). told a .number)
       (open-passes (u .cipher) (u .steps) (length (u .key)) (length (u .nonce)) (length (u .header)) (length (image u t)) (length room)
-      (record {
-        suite = q .suite;
-        key = q .key;
-        nonce = q .nonce;
-        short = q .short;
-        header = q .header;
-        long = omega arith;
-        text = rw m (q .text);
-        room = omega arith;
-      }))
+      (record { sealed = record { inputs = q .inputs; long = omega arith; text = rw m (q .text) }; room = omega arith }))
 
   seal-short : (t out : List ℕ) → Sealable u t out → length (u .nonce) ≤ 15
   unfolding sealOutcome
   seal-short t out sealable =
       let done = sealable-done t out sealable in
-      seal-passed (u .cipher) (u .steps) (length (u .key)) (length (u .nonce)) (length (u .header)) (length t) (length out) done .short
+      seal-passed (u .cipher) (u .steps) (length (u .key)) (length (u .nonce)) (length (u .header)) (length t) (length out) done .inputs .short
 
   image-made : (t out : List ℕ) → Sealable u t out
       → (sealTells u t out ≡ gives ((length t + 16) ∷ length (calls (u .nonce) (u .header) t) ∷ []))
@@ -213,6 +204,8 @@ demand2 u bk bn =
       made = image-made u bk bn;
       answered = answers u bk bn;
       exact = λ s out t bs op. (accepted-image u bk bn s out op t bs, λ i. image-accepted u bk bn s out op t (i .0) (i .1));
-      one = λ s out t₁ t₂ op b₁ b₂ q₁ q₂. image-one u bk bn (p u bk bn s out op .key) (p u bk bn s out op .short) t₁ t₂ b₁ b₂ (q₁ ∙ sym q₂);
+      one = λ s out t₁ t₂ op b₁ b₂ q₁ q₂.
+          let i = p u bk bn s out op .sealed .inputs in
+          image-one u bk bn (i .key) (i .short) t₁ t₂ b₁ b₂ (q₁ ∙ sym q₂);
       back = λ t out room bt done h. image-accepted u bk bn (image u t) room (image-openable u bk bn t out room done h) t bt refl;
     }

@@ -94,8 +94,9 @@ module _ (s : List ℕ) (bytes : Bytes s) (one : hasField 0x01 8 s ≡ true) (tw
       ∙ (λ i. field 0x01 (bigEndian 8 (openingNumber s)) ++ (field 0x02 (suite-held i) ++ after-held i))
       ∙ sym (append-assoc (field 0x01 (bigEndian 8 (openingNumber s))) (field 0x02 c) (afterOpening s))
 
-pub opening-told : (s : List ℕ) → Bytes s → openingTests s ≡ Done
-    → (listed (openingSuite s .cipher) (openingSuite s .steps) ≡ true) × (openingNumber s < 2 ^ 64) × (s ≡ openingFields (openingSuite s) (openingNumber s) ++ afterOpening s)
+opening-told : (s : List ℕ) → Bytes s → openingTests s ≡ Done
+    → (listed (openingSuite s .cipher) (openingSuite s .steps) ≡ true) × (openingNumber s < 2 ^ 64)
+    × (s ≡ openingFields (openingSuite s) (openingNumber s) ++ afterOpening s)
 unfolding openingTests hasOpening
 opening-told s bytes e =
     let has = unless-passed (hasOpening s) _ _ e in

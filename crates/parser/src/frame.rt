@@ -38,7 +38,8 @@ pub struct Pair {
 // The codes that stand there; for our own crates, which know that a whole header does.
 pub fn codes(kind: Kind, s: &[u8]) -> Pair
     requires { ⌜ headerLength (kindOf kind) ≤ length (now s) ⌝ }
-    ensures { λ r. ⌜ (r .from ≡ frameFrom (kindOf kind) (now (s .entry))) × (r .to ≡ frameTo (kindOf kind) (now (s .entry))) ⌝ }
+    ensures { λ r. ⌜ (r .from ≡ frameFrom (kindOf kind) (now (s .entry)))
+        × (r .to ≡ frameTo (kindOf kind) (now (s .entry))) ⌝ }
 {
     let a = kind.codes_at();
     let b = a + kind.code_bytes();

@@ -89,8 +89,12 @@ module _ (s : Suite) (key nonce h : List ℕ) (m : ℕ) (out : List ℕ) where
     passed =
         let p = seal-passed (s .cipher) (s .steps) (length key) (length nonce) (length h) m (length out) e in
         record {
-          whole = p .key;
-          header = record { usable = record { suite = p .suite; short = p .short }; small = le-trans (p .header) (header-limit-most (length nonce)) };
+          whole = p .inputs .key;
+          header =
+              record {
+                usable = record { suite = p .inputs .suite; short = p .inputs .short };
+                small = le-trans (p .inputs .header) (header-limit-most (length nonce));
+              };
           small = le-trans (p .text) (text-limit-most (length nonce));
           room = p .room;
         }

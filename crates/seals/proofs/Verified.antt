@@ -1,14 +1,12 @@
 -- The seals of a frame: nothing but the tag can be refused.
 use mathlib.Core.Path.{_≡_, refl, sym, ap, _∙_}
 use mathlib.Core.Bool.{Bool, true, false}
-use mathlib.Core.List.{List, [], _∷_, _++_}
+use mathlib.Core.List.{List, [], _++_}
 use Prim.Native.Nat.{ℕ, _+_, _-_, _*_, _^_, _≤_}
 use native.Mathlib.Omega.{arith}
 use lib.Dec.{eqb}
 use lib.ListN.{length, getD, take, drop, length-append, length-take}
 use lib.Seq.{drop-drop, length-take-le}
-use Rattle.bits.specs.Bytes.{numberOf}
-use Rattle.bits.proofs.Lists.{part-at}
 use Rattle.suites.specs.declared.refusal.Answer.{Answer}
 use Rattle.suites.specs.declared.refusal.Answer.the-variants.{Done, Refused}
 use Rattle.suites.specs.declared.refusal.Refusal.{Refusal}
@@ -24,6 +22,7 @@ use Rattle.verifying.specs.declared.verify.VerifyAnswer.{VerifyAnswer}
 use Rattle.verifying.specs.declared.verify.VerifyAnswer.the-variants.{Agrees, Refused as VerifyRefused}
 use Rattle.verifying.specs.Verify.{verifyReport, verifyAnswer}
 use Rattle.verifying.proofs.Answers.{verify-done}
+use Rattle.fields.proofs.Pair.{pair-at}
 use Rattle.fields.specs.Field.{fieldValue, afterField}
 use Rattle.fields.specs.Kind.{Kind}
 use Rattle.kinds.specs.declared.Kind.{Kind as BookKind}
@@ -76,13 +75,12 @@ parts-same e f p =
 
 -- the source length is in the text's first two bytes
 pub stated : (t : List ℕ) → 2 ≤ length t → getD t 0 0 * 256 + getD t 1 0 ≡ sourceLength t
-unfolding sourceLength numberOf
-stated t h =
-    let two : getD t 0 0 * 256 + getD t 1 0 ≡ numberOf (getD t 0 0 ∷ getD t 1 0 ∷ []) = omega arith in
-    two ∙ ap numberOf (part-at 2 t 0 h)
+unfolding sourceLength
+stated t h = pair-at t 0 h
 
 -- what a report tells of the tag and the text
-tag-differs : (v : Bool) (t : List ℕ) (why : Refusal) (rest : Answer) → verifyReport (thenTag Done v) t ≡ VerifyRefused why → Refused why ≡ unless v TagDiffers rest
+tag-differs : (v : Bool) (t : List ℕ) (why : Refusal) (rest : Answer) → verifyReport (thenTag Done v) t ≡ VerifyRefused why
+    → Refused why ≡ unless v TagDiffers rest
 tag-differs true t why rest e = let z : _≡_ {A = ℕ} 0 1 = cc in absurd (omega arith)
 tag-differs false t why rest e = let w : why ≡ TagDiffers = cc in ap Refused w
 
@@ -106,11 +104,7 @@ module _ (suite : Suite) (key nonce header x : List ℕ) (m : ℕ) (allowed : li
   tested =
       verify-passes (suite .cipher) (suite .steps) (length key) (length nonce) (length header) (length x)
       (record {
-        suite = allowed;
-        key = whole;
-        nonce = omega arith;
-        short = omega arith;
-        header = rw (twelve, header-limit) (omega arith);
+        inputs = record { suite = allowed; key = whole; nonce = omega arith; short = omega arith; header = rw (twelve, header-limit) (omega arith) };
         long = omega arith;
         text = rw (twelve, text-limit) (omega arith);
       })
@@ -126,14 +120,16 @@ module _ (suite : Suite) (key nonce header x : List ℕ) (m : ℕ) (allowed : li
   pub differs : (why : Refusal) (rest : Answer) → verifyAnswer (suite .cipher) (suite .steps) key nonce header x ≡ VerifyRefused why
       → Refused why ≡ unless (agrees (suite .cipher) (suite .steps) key nonce header x) TagDiffers rest
   differs why rest e =
-      tag-differs (agrees (suite .cipher) (suite .steps) key nonce header x) (opened (suite .cipher) (suite .steps) key nonce header x) why rest (sym verified ∙ e)
+      tag-differs (agrees (suite .cipher) (suite .steps) key nonce header x) (opened (suite .cipher) (suite .steps) key nonce header x) why rest
+      (sym verified ∙ e)
 
   pub agreed : (high low : ℕ) → verifyAnswer (suite .cipher) (suite .steps) key nonce header x ≡ Agrees high low
       → (agrees (suite .cipher) (suite .steps) key nonce header x ≡ true)
       × (getD (opened (suite .cipher) (suite .steps) key nonce header x) 0 0 ≡ high)
       × (getD (opened (suite .cipher) (suite .steps) key nonce header x) 1 0 ≡ low)
   agreed high low e =
-      tag-agrees (agrees (suite .cipher) (suite .steps) key nonce header x) (opened (suite .cipher) (suite .steps) key nonce header x) high low (sym verified ∙ e)
+      tag-agrees (agrees (suite .cipher) (suite .steps) key nonce header x) (opened (suite .cipher) (suite .steps) key nonce header x) high low
+      (sym verified ∙ e)
 
 -- a frame of a book whose opening fields were tested
 module _ (k : BookKind) (key o : List ℕ) (n : ℕ) (under : Under key o) where
@@ -152,19 +148,23 @@ module _ (k : BookKind) (key o : List ℕ) (n : ℕ) (under : Under key o) where
     unit-short = let w = formed k in along-short (headerLength (kindOf k)) s (omega arith)
 
     pub unit-tested :
-        verifyTests (openingSuite o .cipher) (openingSuite o .steps) (length key) (length (nonceOf (openingNumber o) n)) (length (unitAlong (kindOf k) o s)) (length (frameSealed (kindOf k) m s)) ≡ Done
+        verifyTests (openingSuite o .cipher) (openingSuite o .steps) (length key) (length (nonceOf (openingNumber o) n)) (length (unitAlong (kindOf k) o s))
+        (length (frameSealed (kindOf k) m s)) ≡ Done
     unit-tested =
-        tested (openingSuite o) key (nonceOf (openingNumber o) n) (unitAlong (kindOf k) o s) (frameSealed (kindOf k) m s) m (under .listedSuite) (under .keyLong) (length-nonceOf (openingNumber o) n) unit-short (told .sealedLong) (told .most)
+        tested (openingSuite o) key (nonceOf (openingNumber o) n) (unitAlong (kindOf k) o s) (frameSealed (kindOf k) m s) m (under .listedSuite)
+        (under .keyLong) (length-nonceOf (openingNumber o) n) unit-short (told .sealedLong) (told .most)
 
     pub unit-opened-long : length (unitOpened (kindOf k) key o n m s) ≡ m
     unfolding unitOpened
     unit-opened-long =
-        opened-is-long (openingSuite o) key (nonceOf (openingNumber o) n) (unitAlong (kindOf k) o s) (frameSealed (kindOf k) m s) m (under .listedSuite) (under .keyLong) (length-nonceOf (openingNumber o) n) unit-short (told .sealedLong) (told .most)
+        opened-is-long (openingSuite o) key (nonceOf (openingNumber o) n) (unitAlong (kindOf k) o s) (frameSealed (kindOf k) m s) m (under .listedSuite)
+        (under .keyLong) (length-nonceOf (openingNumber o) n) unit-short (told .sealedLong) (told .most)
 
     pub unit-refused : (why : Refusal) → unitVerified ≡ VerifyRefused why → Refused why ≡ unitSealTests (kindOf k) key o n m s
     unfolding unitSealTests unitAgrees
     unit-refused why e =
-        differs (openingSuite o) key (nonceOf (openingNumber o) n) (unitAlong (kindOf k) o s) (frameSealed (kindOf k) m s) m (under .listedSuite) (under .keyLong) (length-nonceOf (openingNumber o) n) unit-short (told .sealedLong) (told .most)
+        differs (openingSuite o) key (nonceOf (openingNumber o) n) (unitAlong (kindOf k) o s) (frameSealed (kindOf k) m s) m (under .listedSuite)
+        (under .keyLong) (length-nonceOf (openingNumber o) n) unit-short (told .sealedLong) (told .most)
         why (unless (textInRange m (sourceLength (unitOpened (kindOf k) key o n m s))) SegmentLength Done) e
 
     pub unit-passed : (high low : ℕ) → unitVerified ≡ Agrees high low
@@ -174,7 +174,8 @@ module _ (k : BookKind) (key o : List ℕ) (n : ℕ) (under : Under key o) where
         let h = unitAlong (kindOf k) o s in
         let x = frameSealed (kindOf k) m s in
         let t = opened (openingSuite o .cipher) (openingSuite o .steps) key (nonceOf (openingNumber o) n) h x in
-        let told-of = agreed (openingSuite o) key (nonceOf (openingNumber o) n) h x m (under .listedSuite) (under .keyLong) (length-nonceOf (openingNumber o) n) unit-short (told .sealedLong) (told .most) high low e in
+        let told-of = agreed (openingSuite o) key (nonceOf (openingNumber o) n) h x m (under .listedSuite) (under .keyLong)
+        (length-nonceOf (openingNumber o) n) unit-short (told .sealedLong) (told .most) high low e in
         let two : 2 ≤ length t = omega (arith, told .least, unit-opened-long) in
         let s-is : high * 256 + low ≡ sourceLength t = (λ i. sym (told-of .1) i * 256 + sym (told-of .2) i) ∙ stated t two in
         λ i. unless (sym (told-of .0) i) TagDiffers (unless (textInRange m (s-is i)) SegmentLength Done)
@@ -192,12 +193,14 @@ module _ (k : BookKind) (key o : List ℕ) (n : ℕ) (under : Under key o) where
     pub close-refused : (why : Refusal) → closeVerified ≡ VerifyRefused why → Refused why ≡ closeSealTests (kindOf k) key o n s
     unfolding closeSealTests closeAgrees
     close-refused why e =
-        differs (openingSuite o) key (nonceOf (openingNumber o) n) (closeAlong (kindOf k) o s) (closeSealed (kindOf k) s) 0 (under .listedSuite) (under .keyLong) (length-nonceOf (openingNumber o) n) close-short (told .sealedLong) (omega arith)
+        differs (openingSuite o) key (nonceOf (openingNumber o) n) (closeAlong (kindOf k) o s) (closeSealed (kindOf k) s) 0 (under .listedSuite)
+        (under .keyLong) (length-nonceOf (openingNumber o) n) close-short (told .sealedLong) (omega arith)
         why (unless (eqb (length (afterClose (kindOf k) s)) 0) FieldMalformed Done) e
 
     pub close-passed : (high low : ℕ) → closeVerified ≡ Agrees high low
         → unless (eqb (length (afterClose (kindOf k) s)) 0) FieldMalformed Done ≡ closeSealTests (kindOf k) key o n s
     unfolding closeSealTests closeAgrees
     close-passed high low e =
-        let told-of = agreed (openingSuite o) key (nonceOf (openingNumber o) n) (closeAlong (kindOf k) o s) (closeSealed (kindOf k) s) 0 (under .listedSuite) (under .keyLong) (length-nonceOf (openingNumber o) n) close-short (told .sealedLong) (omega arith) high low e in
+        let told-of = agreed (openingSuite o) key (nonceOf (openingNumber o) n) (closeAlong (kindOf k) o s) (closeSealed (kindOf k) s) 0 (under .listedSuite)
+        (under .keyLong) (length-nonceOf (openingNumber o) n) close-short (told .sealedLong) (omega arith) high low e in
         ap (λ (v : Bool). unless v TagDiffers (unless (eqb (length (afterClose (kindOf k) s)) 0) FieldMalformed Done)) (sym (told-of .0))

@@ -41,7 +41,8 @@ pub fn is_text(m: usize, high: u8, low: u8) -> bool
 
 // The parts of frame n, by their places. The header sealed along is copied from the book: its opening fields, then the h bytes of the frame's header.
 fn parts_at(front: &[u8], n: u64, h: usize, start: usize, end: usize, at: usize, s: &[u8]) -> Parts
-    requires { ⌜ (length (now front) ≡ 16) × Placed (now s) h start end at ⌝ }
+    requires { ⌜ (length (now front) ≡ 16)
+        × Placed (now s) h start end at ⌝ }
     ensures { λ r. ⌜ PartsOf
         (nonceOf (openingNumber (now (front .entry))) n)
         (now (front .entry) ++ take h (now (s .entry)))
@@ -64,7 +65,8 @@ fn parts_at(front: &[u8], n: u64, h: usize, start: usize, end: usize, at: usize,
 
 // The parts of the unit at the start of s, whose ciphertext has m bytes.
 pub fn unit_parts(kind: Kind, front: &[u8], n: u64, m: usize, s: &[u8]) -> Parts
-    requires { ⌜ (length (now front) ≡ 16) × (frameAt (kindOf kind) n (now s) ≡ Frame.Unit m) ⌝ }
+    requires { ⌜ (length (now front) ≡ 16)
+        × (frameAt (kindOf kind) n (now s) ≡ Frame.Unit m) ⌝ }
     ensures { λ r. ⌜ PartsOf
         (nonceOf (openingNumber (now (front .entry))) n)
         (unitAlong (kindOf kind) (now (front .entry)) (now (s .entry)))
@@ -78,7 +80,8 @@ pub fn unit_parts(kind: Kind, front: &[u8], n: u64, m: usize, s: &[u8]) -> Parts
 
 // The parts of the close at the start of s.
 fn close_parts(kind: Kind, front: &[u8], n: u64, s: &[u8]) -> Parts
-    requires { ⌜ (length (now front) ≡ 16) × (frameAt (kindOf kind) n (now s) ≡ Frame.Close) ⌝ }
+    requires { ⌜ (length (now front) ≡ 16)
+        × (frameAt (kindOf kind) n (now s) ≡ Frame.Close) ⌝ }
     ensures { λ r. ⌜ PartsOf
         (nonceOf (openingNumber (now (front .entry))) n)
         (closeAlong (kindOf kind) (now (front .entry)) (now (s .entry)))
@@ -91,7 +94,9 @@ fn close_parts(kind: Kind, front: &[u8], n: u64, s: &[u8]) -> Parts
 
 // Opens a frame by its parts, without an output.
 fn verify(key: &[u8], front: &[u8], p: Parts, s: &[u8]) -> VerifyAnswer
-    requires { ⌜ (p .len ≤ length (p .along)) × (p .start ≤ p .end) × (p .end ≤ length (now s)) ⌝ }
+    requires { ⌜ (p .len ≤ length (p .along))
+        × (p .start ≤ p .end)
+        × (p .end ≤ length (now s)) ⌝ }
     ensures { λ r. ⌜ r ≡ verifyAnswer
         (openingSuite (now (front .entry)) .cipher) (openingSuite (now (front .entry)) .steps)
         (now (key .entry)) (p .nonce) (take (p .len) (p .along))
@@ -109,7 +114,8 @@ fn verify(key: &[u8], front: &[u8], p: Parts, s: &[u8]) -> VerifyAnswer
 
 // The seal of the unit at the start of s, whose ciphertext has m bytes, and the range of its text. Refusals: 8, 12.
 pub fn unit(kind: Kind, key: &[u8], front: &[u8], n: u64, m: usize, s: &[u8]) -> Answer
-    requires { ⌜ Under (now key) (now front) × (frameAt (kindOf kind) n (now s) ≡ Frame.Unit m) ⌝ }
+    requires { ⌜ Under (now key) (now front)
+        × (frameAt (kindOf kind) n (now s) ≡ Frame.Unit m) ⌝ }
     ensures { λ r. ⌜ r ≡ unitSealTests (kindOf kind) (now (key .entry)) (now (front .entry)) n m (now (s .entry)) ⌝ }
 {
     let p = unit_parts(kind, front, n, m, s);
@@ -127,7 +133,8 @@ pub fn unit(kind: Kind, key: &[u8], front: &[u8], n: u64, m: usize, s: &[u8]) ->
 
 // The seal of the close at the start of s, and that the book ends with it. Refusals: 8, 14.
 pub fn close(kind: Kind, key: &[u8], front: &[u8], count: u64, s: &[u8]) -> Answer
-    requires { ⌜ Under (now key) (now front) × (frameAt (kindOf kind) count (now s) ≡ Frame.Close) ⌝ }
+    requires { ⌜ Under (now key) (now front)
+        × (frameAt (kindOf kind) count (now s) ≡ Frame.Close) ⌝ }
     ensures { λ r. ⌜ r ≡ closeSealTests (kindOf kind) (now (key .entry)) (now (front .entry)) count (now (s .entry)) ⌝ }
 {
     let p = close_parts(kind, front, count, s);

@@ -45,8 +45,7 @@ module _ (s : Suite) (key nonce h x : List ℕ) where
   module _ (e : tests ≡ Done) where
     pub verify-ready : Ready s key nonce h x
     verify-ready =
-        let p = verify-passed (s .cipher) (s .steps) (length key) (length nonce) (length h) (length x) e in
-        ready s key nonce h x (p .suite) (p .key) (p .short) (p .header) (p .long) (p .text)
+        ready s key nonce h x (verify-passed (s .cipher) (s .steps) (length key) (length nonce) (length h) (length x) e)
 
     pub verify-done : verifyReport (byTag s key nonce h x) (opened (s .cipher) (s .steps) key nonce h x) ≡ verifyAnswer (s .cipher) (s .steps) key nonce h x
     verify-done = verify-answer Done e

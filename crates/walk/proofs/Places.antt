@@ -3,6 +3,7 @@ use mathlib.Core.Path.{_≡_, refl, sym, ap, _∙_}
 use mathlib.Core.Bool.{Bool, true, false}
 use mathlib.Core.List.{List}
 use Prim.Native.Nat.{ℕ, zero, suc, _+_, _-_, _≤_, _<_, min}
+use native.Mathlib.Nat.{zero-add}
 use native.Mathlib.Omega.{arith}
 use borrow.Author.Tests.{leb-true, leb-false}
 use lib.Dec.{leb}
@@ -20,7 +21,7 @@ use Rattle.parser.specs.Opening.{afterOpening, openingTests}
 use Rattle.parser.proofs.Frames.{unit-told}
 use Rattle.parser.proofs.Openings.{opening-passed}
 use Rattle.walk.specs.declared.Place.{Place}
-use Rattle.walk.specs.Walk.{nextPlace, pastUnit, walkOn, walkTo}
+use Rattle.walk.specs.Walk.{nextPlace, pastUnit, walkOn, firstPlace, walkTo}
 use Rattle.walk.specs.Clear.{clearOf, clearUnless, placedClearOf, unitClearOf, unitClear}
 use Rattle.walk.specs.Ciphertext.{partAt, partFrom, partUnless, ciphertextPlaceOf, ciphertextPlace}
 
@@ -59,12 +60,32 @@ module _ (kind : Kind) (s : List ℕ) where
       past-within p (λ (m : ℕ). walkOn kind k (nextPlace kind m p) s) (frameAt kind (p .number) (drop (p .at) s)) refl h
       (λ m next. walk-within k (nextPlace kind m p) next)
 
+  -- a walk that ends at a unit has gone past as many as it was to
+  past-count : (k : ℕ) (p : Place) (past : ℕ → Place) (f : Frame) → frameAt kind (p .number) (drop (p .at) s) ≡ f
+      → ((m l : ℕ) → frameAt kind (past m .number) (drop (past m .at) s) ≡ Unit l → past m .number ≡ suc (p .number) + k)
+      → (l : ℕ) → frameAt kind (pastUnit f past p .number) (drop (pastUnit f past p .at) s) ≡ Unit l → pastUnit f past p .number ≡ p .number + suc k
+  past-count k p past (Unit m) e on l u = on m l u ∙ omega arith
+  past-count k p past Close e on l u = let z : _≡_ {A = ℕ} 0 1 = cc in absurd (omega arith)
+  past-count k p past (FrameRefused why) e on l u = let z : _≡_ {A = ℕ} 0 1 = cc in absurd (omega arith)
+
+  walk-count : (k : ℕ) (p : Place) (l : ℕ) → frameAt kind (walkOn kind k p s .number) (drop (walkOn kind k p s .at) s) ≡ Unit l
+      → walkOn kind k p s .number ≡ p .number + k
+  unfolding walkOn
+  walk-count zero p l u = omega arith
+  walk-count (suc k) p l u =
+      past-count k p (λ (m : ℕ). walkOn kind k (nextPlace kind m p) s) (frameAt kind (p .number) (drop (p .at) s)) refl
+      (λ m. walk-count k (nextPlace kind m p)) l u
+
+  pub walked-to : (k l : ℕ) → frameAt kind (walkTo kind k s .number) (drop (walkTo kind k s .at) s) ≡ Unit l → walkTo kind k s .number ≡ k
+  unfolding walkTo
+  walked-to k l u = walk-count k firstPlace l u ∙ zero-add k
+
   pub walked-within : (k : ℕ) → walkTo kind k s .at ≤ length s
   unfolding walkTo
   walked-within k = walk-within k _ (omega arith)
 
   -- and so does the part of the frame at a place, where a bytes stand before them
-  pub part-within : (a n at : ℕ) (f : Frame) → frameAt kind n (drop at s) ≡ f → at ≤ length s
+  part-within : (a n at : ℕ) (f : Frame) → frameAt kind n (drop at s) ≡ f → at ≤ length s
       → partAt kind (a + at) f .at + partAt kind (a + at) f .len ≤ a + length s
   part-within a n at (Unit m) e h = omega (arith, unit-within n at m h e)
   part-within a n at Close e h = omega arith
@@ -95,7 +116,7 @@ clear-frame kind at s (Unit m) = refl
 clear-frame kind at s Close = refl
 clear-frame kind at s (FrameRefused why) = refl
 
-pub clear-part-of : (kind : Kind) (k : ℕ) (s : List ℕ) → unitClearOf kind k s .ciphertext ≡ ciphertextPlaceOf kind k s
+clear-part-of : (kind : Kind) (k : ℕ) (s : List ℕ) → unitClearOf kind k s .ciphertext ≡ ciphertextPlaceOf kind k s
 unfolding unitClearOf placedClearOf ciphertextPlaceOf partFrom afterOpening
 clear-part-of kind k s = by (openingTests s)
   where

@@ -1,7 +1,9 @@
 -- "Given k, a second call hands back unit k's ciphertext as a part of the book buffer itself, unopened, or, with no number, an empty part where
 -- the opening fields, the walk, or the framing, number or languages of k, would be refused or there is no unit k."
+use mathlib.Core.Path.{_≡_}
 use mathlib.Core.List.{List}
 use Prim.Native.Nat.{ℕ, _+_}
+use denote.Ref.{RefT, now}
 use lib.ListN.{take, drop}
 use Rattle.suites.specs.declared.refusal.Answer.{Answer}
 use Rattle.suites.specs.declared.refusal.Answer.the-variants.{Done, Refused}
@@ -40,6 +42,13 @@ ciphertextPlaceOf kind k s = partUnless (openingTests s) (partFrom kind (walkTo 
 -- and in a book s, whose bytes say its kind
 unfoldable pub ciphertextPlace : ℕ → List ℕ → Part
 ciphertextPlace k s = ciphertextPlaceOf (kindOf (bookKind s)) k s
+
+-- "as a part of the book buffer itself": the bytes that stand there, and no copy of them. A reference points to a byte of a block of memory, and
+-- the part to the book's own bytes, from the place on.
+pub record IsPart (part book : RefT (List ℕ)) (p : Part) : Type 0 where
+  pub bytes : now part ≡ take (p .len) (drop (p .at) (now book))
+  pub block : part .ptr .0 ≡ book .ptr .0
+  pub offset : part .ptr .1 ≡ book .ptr .1 + p .at
 
 -- the part of the book that stands there
 unfoldable pub ciphertextPart : ℕ → List ℕ → List ℕ

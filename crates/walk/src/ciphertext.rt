@@ -1,6 +1,6 @@
 // The ciphertext of unit k, unopened. No key is needed.
 ghost use mathlib.Core.Path.{_≡_};
-ghost use Rattle.walk.specs.Ciphertext.{ciphertextPlace, ciphertextPart};
+ghost use Rattle.walk.specs.Ciphertext.{ciphertextPlace, IsPart};
 
 // A part of a book: where it begins, and its length.
 pub struct Part {
@@ -19,7 +19,7 @@ pub fn place(book: &[u8], k: u64) -> Part
 
 // The ciphertext of unit k as a part of the book itself, empty where there is none.
 pub fn ciphertext(book: &[u8], k: u64) -> &[u8]
-    ensures { λ r. ⌜ now r ≡ ciphertextPart k (now (book .entry)) ⌝ }
+    ensures { λ r. ⌜ IsPart r (book .entry) (ciphertextPlace k (now (book .entry))) ⌝ }
 {
     let p = place(book, k);
     let at = p.at;

@@ -69,7 +69,8 @@ fn none(why: Refusal) -> Clear
 
 // The unit at the start of s, whose ciphertext has m bytes; s begins at byte `at` of a book.
 fn unit_clear(kind: Kind, n: u64, at: usize, m: usize, s: &[u8]) -> Clear
-    requires { ⌜ (frameAt (kindOf kind) n (now s) ≡ Frame.Unit m) × (at + length (now s) < 2 ^ 64) ⌝ }
+    requires { ⌜ (frameAt (kindOf kind) n (now s) ≡ Frame.Unit m)
+        × (at + length (now s) < 2 ^ 64) ⌝ }
     ensures { λ r. ⌜ r ≡ clearOf (kindOf kind) at (now (s .entry)) (Frame.Unit m) ⌝ }
 {
     let c = parser::frame::codes(kind, s);

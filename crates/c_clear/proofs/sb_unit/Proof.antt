@@ -15,7 +15,8 @@ returns c =
     let a = u .before .before .args in (
       c .put .ensures .0 ∙ ap (λ (r : Clear). returned (r .answer)) (u .unit .ensures),
       p .place .ensures ∙ ap (λ (r : Clear). byAnswer (r .answer) (r .at) (a .at .now)) (u .unit .ensures),
-      c .put .ensures .1 ∙ ap (λ (r : Clear). lentAfter r (lent (a .from .now) (a .fromlen .now) (a .to .now) (a .tolen .now) (a .start .now) (a .len .now) (a .next .now))) (u .unit .ensures),
+      c .put .ensures .1 ∙ ap (λ (r : Clear). lentAfter r
+          (lent (a .from .now) (a .fromlen .now) (a .to .now) (a .tolen .now) (a .start .now) (a .len .now) (a .next .now))) (u .unit .ensures),
     )
 
 pub sb-unit-spec : {M : Type 1} → statement M

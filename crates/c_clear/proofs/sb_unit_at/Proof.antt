@@ -12,7 +12,8 @@ returns c =
     let u = c .before .before .before .before .before .before .before .before in
     let a = u .before .before .args in (
       c .put .ensures .0 ∙ ap (λ (r : Clear). returned (r .answer)) (u .placed .ensures),
-      c .put .ensures .1 ∙ ap (λ (r : Clear). lentAfter r (lent (a .from .now) (a .fromlen .now) (a .to .now) (a .tolen .now) (a .start .now) (a .len .now) (a .next .now))) (u .placed .ensures),
+      c .put .ensures .1 ∙ ap (λ (r : Clear). lentAfter r
+          (lent (a .from .now) (a .fromlen .now) (a .to .now) (a .tolen .now) (a .start .now) (a .len .now) (a .next .now))) (u .placed .ensures),
     )
 
 pub sb-unit-at-spec : {M : Type 1} → statement M

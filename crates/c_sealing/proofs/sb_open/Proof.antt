@@ -1,25 +1,22 @@
 -- By cases on the answer.
-use mathlib.Core.Path.{refl, sym, _∙_}
-use mathlib.Core.List.{[], _∷_}
+use mathlib.Core.Path.{refl, sym, ap, _∙_}
 use borrow.Author.Needs.{needs}
 use Rattle.opening.specs.Open.{openTold}
-use Rattle.returned.proofs.Returns.{returns-by}
+use Rattle.returned.proofs.Returns.{returns-as}
 use Rattle.c_sealing.proofs.sb_open.Statement.{statement}
 use Rattle.c_sealing.proofs.sb_open.Tie as tie
 
 returns : tie.Need-returns
 returns c =
     let h = c .before .before .before .before .before .before in
-    let a = h .before .before .before .before .before .before .before .args in
     let e = sym (c .before .before .answer .given .1) ∙ h .open .ensures .0 in
-    (returns-by openTold (a .len .now ∷ []) (c .number .ensures) e, h .open .ensures .1)
+    (returns-as (ap openTold e) (record { number = c .number .ensures; values = refl }), h .open .ensures .1)
 
 returns-2 : tie.Need-returns-2
 returns-2 c =
     let h = c .before .before .before .before .before in
-    let a = h .before .before .before .before .before .before .before .args in
     let e = sym (c .before .answer2 .given .1) ∙ h .open .ensures .0 in
-    (returns-by openTold (a .len .now ∷ []) refl e, h .open .ensures .1)
+    (returns-as (ap openTold e) (record { number = refl; values = refl }), h .open .ensures .1)
 
 pub sb-open-spec : {M : Type 1} → statement M
 sb-open-spec =

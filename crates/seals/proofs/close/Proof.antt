@@ -29,7 +29,8 @@ answer-is c =
     let a = u .before .before .before .before .args in
     let r = u .close-parts .ensures in
     c .verify .ensures
-    ∙ (λ i. verifyAnswer (openingSuite (a .front .now) .cipher) (openingSuite (a .front .now) .steps) (a .key .now) (r .nonceIs i) (r .alongIs i) (r .sealedIs i))
+    ∙ (λ i. verifyAnswer (openingSuite (a .front .now) .cipher) (openingSuite (a .front .now) .steps) (a .key .now) (r .nonceIs i) (r .alongIs i)
+    (r .sealedIs i))
 
 close-parts-requires : tie.Need-close-parts-requires
 close-parts-requires c κs = let p = c .before .before .before in (p .pre .0 .openingLong, p .pre .1)

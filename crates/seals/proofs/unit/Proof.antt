@@ -25,7 +25,8 @@ answer-is c =
     let a = u .before .before .before .before .args in
     let r = u .unit-parts .ensures in
     c .verify .ensures
-    ∙ (λ i. verifyAnswer (openingSuite (a .front .now) .cipher) (openingSuite (a .front .now) .steps) (a .key .now) (r .nonceIs i) (r .alongIs i) (r .sealedIs i))
+    ∙ (λ i. verifyAnswer (openingSuite (a .front .now) .cipher) (openingSuite (a .front .now) .steps) (a .key .now) (r .nonceIs i) (r .alongIs i)
+    (r .sealedIs i))
 
 unit-parts-requires : tie.Need-unit-parts-requires
 unit-parts-requires c κs = let p = c .before .before .before in (p .pre .0 .openingLong, p .pre .1)

@@ -51,7 +51,8 @@ module _ (c : tie.After-at Inv-loop μ-loop) where
 
   -- one turn
   turned : (f : Frame) → c .at .result ≡ f → let h = c .before .before .before in let a = h .before .before .args in let kind = kindOf (a .kind) in
-      pastUnit f (λ (m : ℕ). walkFrom kind (a .k) (h .loop .number + 1) (h .loop .at + frameLength kind m) (a .s .now)) (placeOf (h .loop .number) (h .loop .at))
+      pastUnit f (λ (m : ℕ). walkFrom kind (a .k) (h .loop .number + 1) (h .loop .at + frameLength kind m) (a .s .now))
+      (placeOf (h .loop .number) (h .loop .at))
       ≡ walkTo kind (a .k) (a .s .now)
   turned f e =
       let h = c .before .before .before in
@@ -115,7 +116,8 @@ returns-3 : tie.Need-returns-3 Inv-loop μ-loop
 returns-3 c =
     let h = c .before in
     let a = h .before .before .args in
-    sym (turn-last (kindOf (a .kind)) (a .k) (h .loop .number) (h .loop .at) (a .s .now) (ended (h .loop .number) (a .k) (h .loop .ahead) (h .loop .inv .3) (c .loop-test .left)))
+    sym (turn-last (kindOf (a .kind)) (a .k) (h .loop .number) (h .loop .at) (a .s .now)
+    (ended (h .loop .number) (a .k) (h .loop .ahead) (h .loop .inv .3) (c .loop-test .left)))
     ∙ h .loop .inv .2
 
 pub to-spec : {M : Type 1} → statement M

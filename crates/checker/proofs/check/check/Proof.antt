@@ -22,17 +22,20 @@ unfolding checkAnswer checkAnswerOf
 answered c t e =
     let a = c .before .before .before .args in
     let s = a .book .now in
-    ap (λ (v : Answer). afterTests v (checkFrom (kindOf (bookKind s)) (a .key .now) (openingBytes s) (suc mostUnits) 0 0 (afterOpening s))) (sym e ∙ c .tests-under .ensures)
+    ap (λ (v : Answer). afterTests v (checkFrom (kindOf (bookKind s)) (a .key .now) (openingBytes s) (suc mostUnits) 0 0 (afterOpening s)))
+    (sym e ∙ c .tests-under .ensures)
 
 -- of a book whose tests are done
-passed : (c : tie.After-enum-told) → let a = c .before .before .before .before .before .args in (16 ≤ length (a .book .now)) × Under (a .key .now) (openingBytes (a .book .now))
+passed : (c : tie.After-enum-told) → let a = c .before .before .before .before .before .args in
+    (16 ≤ length (a .book .now)) × Under (a .key .now) (openingBytes (a .book .now))
 passed c =
     let h = c .before .before in
     let a = h .before .before .before .args in
     tested-under (a .key .now) (a .book .now) (sym (h .tests-under .ensures) ∙ c .enum-told .given .1)
 
 slice-aggregate-check-from : tie.Need-slice-aggregate-check-from
-slice-aggregate-check-from c = sym (length-take-le 16 (c .before .before .before .before .before .before .before .args .book .now) (passed (c .before .before) .0))
+slice-aggregate-check-from c =
+    sym (length-take-le 16 (c .before .before .before .before .before .before .before .args .book .now) (passed (c .before .before) .0))
 
 sub-check-from : tie.Need-sub-check-from
 sub-check-from c = passed (c .before .before) .0

@@ -43,7 +43,8 @@ returns c =
     let k = g .before .before in
     let h = k .before .before in
     let a = h .before .before .before .before .args in
-    sym (turn-refused (kindOf (a .kind)) (a .key .now) (a .front .now) (h .loop .place) (h .loop .n) (h .loop .total) (a .s .now) (h .loop .inv .1) (g .frame .given .0 .0) (sym (read k) ∙ g .frame .given .1))
+    sym (turn-refused (kindOf (a .kind)) (a .key .now) (a .front .now) (h .loop .place) (h .loop .n) (h .loop .total) (a .s .now) (h .loop .inv .1)
+    (g .frame .given .0 .0) (sym (read k) ∙ g .frame .given .1))
     ∙ h .loop .inv .2
 
 returns-2 : tie.Need-returns-2 Inv-loop μ-loop
@@ -53,7 +54,8 @@ returns-2 c =
     let h = k .before .before in
     let a = h .before .before .before .before .args in
     ap (λ x. Accepted (h .loop .n) (h .loop .total + x)) (c .close-calls .ensures .is)
-    ∙ sym (turn-close (kindOf (a .kind)) (a .key .now) (a .front .now) (h .loop .place) (h .loop .n) (h .loop .total) (a .s .now) (h .loop .inv .1) (sym (read k) ∙ t .enum-told .given .1))
+    ∙ sym (turn-close (kindOf (a .kind)) (a .key .now) (a .front .now) (h .loop .place) (h .loop .n) (h .loop .total) (a .s .now) (h .loop .inv .1)
+    (sym (read k) ∙ t .enum-told .given .1))
     ∙ h .loop .inv .2
 
 -- a unit that was read
@@ -103,8 +105,10 @@ loop-again c =
     let t = told d in (
       omega (arith, room d, l .unit-len .ensures .is),
       omega arith,
-      (λ i. checkAtPlace (kindOf (a .kind)) (a .key .now) (a .front .now) (h .loop .place + l .unit-len .ensures .is i) (h .loop .n + 1) (h .loop .total + c .unit-calls .ensures .is i) (a .s .now))
-          ∙ sym (turn-unit (kindOf (a .kind)) (a .key .now) (a .front .now) (h .loop .place) (h .loop .n) (h .loop .total) (a .s .now) (h .loop .inv .1) m (unit d))
+      (λ i. checkAtPlace (kindOf (a .kind)) (a .key .now) (a .front .now) (h .loop .place + l .unit-len .ensures .is i) (h .loop .n + 1)
+          (h .loop .total + c .unit-calls .ensures .is i) (a .s .now))
+          ∙ sym (turn-unit (kindOf (a .kind)) (a .key .now) (a .front .now) (h .loop .place) (h .loop .n) (h .loop .total) (a .s .now) (h .loop .inv .1) m
+          (unit d))
           ∙ h .loop .inv .2,
       omega (arith, c .unit-calls .ensures .short),
     )

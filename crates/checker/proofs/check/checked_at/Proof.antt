@@ -14,12 +14,14 @@ use Rattle.checker.proofs.check.checked_at.Tie as tie
 -- with the seal of the frame that was read
 sealed : (c : tie.After-at) (f : Frame) → c .at .result ≡ f
     → let a = c .before .before .before .before .args in
-    withSeal f (λ (m : ℕ). unitSealTests (kindOf (a .kind)) (a .key .now) (a .front .now) (a .n) m (a .s .now)) (closeSealTests (kindOf (a .kind)) (a .key .now) (a .front .now) (a .n) (a .s .now))
+    withSeal f (λ (m : ℕ). unitSealTests (kindOf (a .kind)) (a .key .now) (a .front .now) (a .n) m (a .s .now))
+    (closeSealTests (kindOf (a .kind)) (a .key .now) (a .front .now) (a .n) (a .s .now))
     ≡ checkedAt (kindOf (a .kind)) (a .key .now) (a .front .now) (a .n) (a .s .now)
 unfolding checkedAt
 sealed c f e =
     let a = c .before .before .before .before .args in
-    ap (λ g. withSeal g (λ (m : ℕ). unitSealTests (kindOf (a .kind)) (a .key .now) (a .front .now) (a .n) m (a .s .now)) (closeSealTests (kindOf (a .kind)) (a .key .now) (a .front .now) (a .n) (a .s .now)))
+    ap (λ g. withSeal g (λ (m : ℕ). unitSealTests (kindOf (a .kind)) (a .key .now) (a .front .now) (a .n) m (a .s .now))
+    (closeSealTests (kindOf (a .kind)) (a .key .now) (a .front .now) (a .n) (a .s .now)))
     (sym e ∙ c .at .ensures)
 
 close-requires : tie.Need-close-requires

@@ -1,66 +1,110 @@
--- The walk, then what stands where it ends.
-use mathlib.Core.Path.{_≡_, ap, _∙_}
+-- The tests, then the walk, then what stands where it ends.
+use mathlib.Core.Path.{_≡_, refl, sym, ap, _∙_}
 use Prim.Native.Nat.{_+_, _-_, _≤_}
 use borrow.Author.Needs.{needs}
 use lib.ListN.{length, take, drop, length-drop}
+use Rattle.suites.specs.declared.refusal.Answer.the-variants.{Done, Refused}
 use Rattle.kinds.specs.Kind.{kindOf, bookKind}
+use Rattle.parser.specs.Frame.{frameAt}
+use Rattle.parser.specs.Opening.{openingBytes, afterOpening, checkTests}
 use Rattle.parser.proofs.Openings.{part-rest}
+use Rattle.seals.proofs.Tested.{tested-under}
 use Rattle.walk.specs.Walk.{walkTo}
 use Rattle.walk.proofs.Places.{walked-within}
-use Rattle.fetch.specs.Fetch.{fetchAnswerOf, fetchAnswer, fetchBuffer, placedAnswerOf, placedAnswer, placedBufferOf, placedBuffer}
-use Rattle.fetch.specs.Hands.{withoutNext}
-use Rattle.fetch.proofs.Handed.{endsAt, fetch-placed, without-with}
+use Rattle.fetch.specs.Fetch.{outcomeHere, textAt, nextOf, fetchAnswer, fetchBuffer}
+use Rattle.fetch.proofs.Handed.{hands-same, hands-without, endsAt, there, tests-fetch}
 use Rattle.fetch.proofs.unit.fetch.Statement.{statement}
 use Rattle.fetch.proofs.unit.fetch.Tie as tie
 
--- the walk's end
-walked : (c : tie.After-to) → let a = c .before .before .before .before .before .before .before .args in
-    c .to .result ≡ endsAt (kindOf (bookKind (a .book .now))) (a .key .now) (a .book .now) (a .k) (a .out .now)
-walked c =
-    let l = c .before .before in
-    let a = l .before .before .before .before .before .args in
-    let s = a .book .now in
-    c .to .ensures
-    ∙ (λ i. walkTo (kindOf (l .before .of-book .ensures i)) (a .k) ((part-rest (l .lesser .result) s ∙ ap (λ k. drop k s) (l .lesser .ensures)) i))
+-- the tests are done
+done : (c : tie.After-enum-told) → let a = c .before .before .before .before .before .before .args in
+    checkTests (length (a .key .now)) (a .book .now) ≡ Done
+done c = sym (c .before .before .tests-under .ensures) ∙ c .enum-told .given .1
 
-add-fetch-placed : tie.Need-add-fetch-placed
-add-fetch-placed c =
-    let l = c .before .before in
-    let a = l .before .before .before .before .before .args in
+long : (c : tie.After-enum-told) → 16 ≤ length (c .before .before .before .before .before .before .args .book .now)
+long c =
+    let a = c .before .before .before .before .before .before .args in
+    tested-under (a .key .now) (a .book .now) (done c) .0
+
+-- where the walk ends, in a book of its own kind
+walked : (c : tie.After-to) → let a = c .before .before .before .before .before .before .before .before .before .args in
+    c .to .result ≡ endsAt (kindOf (bookKind (a .book .now))) (a .key .now) (a .book .now) (a .k)
+unfolding afterOpening
+walked c =
+    let k = c .before .before in
+    let a = k .before .before .before .before .before .before .before .args in
+    c .to .ensures ∙ (λ i. walkTo (kindOf (k .of-book .ensures i)) (a .k) (part-rest 16 (a .book .now) i))
+
+sub-to : tie.Need-sub-to
+sub-to c = long (c .before)
+
+part-to-start : tie.Need-part-to-start
+part-to-start c = let h = long (c .before) in search needs
+
+add-at-place : tie.Need-add-at-place
+add-at-place c =
+    let k = c .before .before in
+    let a = k .before .before .before .before .before .before .before .args in
     let s = a .book .now in
-    let r = take (length s - l .lesser .result) (drop (l .lesser .result) s) in
-    let h : c .to .result .at ≤ length r = rw (c .to .ensures) (walked-within (kindOf (l .before .of-book .result)) r (a .k)) in
-    let d = ap length (part-rest (l .lesser .result) s) ∙ length-drop (l .lesser .result) s in
-    let e = l .lesser .ensures in
+    let r = take (length s - 16) (drop 16 s) in
+    let h : c .to .result .at ≤ length r = rw (c .to .ensures) (walked-within (kindOf (k .of-book .result)) r (a .k)) in
+    let d = ap length (part-rest 16 s) ∙ length-drop 16 s in
+    let l = long (k .before) in
     search needs
 
+at-place-requires : tie.Need-at-place-requires
+at-place-requires c κs = done (c .before .before .before .before)
+
 returns : tie.Need-returns
-unfolding fetchAnswer fetchBuffer placedAnswer placedBuffer
+unfolding fetchAnswer fetchBuffer
 returns c =
+    let g = c .before in
+    let h = g .before .before in
+    let a = h .before .before .before .before .args in
+    tests-fetch (kindOf (bookKind (a .book .now))) (a .key .now) (a .book .now) (a .k) (a .out .now) (Refused (g .tested .given .0 .0))
+    (sym (h .tests-under .ensures) ∙ g .tested .given .1) (refl, refl)
+
+returns-2 : tie.Need-returns-2
+unfolding fetchAnswer fetchBuffer
+returns-2 c =
     let f = c .before .before .before in
     let t = f .before .before in
-    let l = t .before .before in
-    let a = l .before .before .before .before .before .args in
-    let kind = kindOf (bookKind (a .book .now)) in
-    let law = fetch-placed kind (a .key .now) (a .book .now) (a .k) (a .out .now) in (
-      c .without-next .ensures
-          ∙ ap withoutNext (f .fetch-placed .ensures .0 ∙ (λ i. placedAnswerOf kind (a .key .now) (a .book .now) (walked t i .number) (l .lesser .ensures i + walked t i .at) (a .out .now)) ∙ law .0)
-          ∙ without-with (fetchAnswerOf kind (a .key .now) (a .book .now) (a .k) (a .out .now)) _,
-      f .fetch-placed .ensures .1 ∙ (λ i. placedBufferOf kind (a .key .now) (a .book .now) (walked t i .number) (l .lesser .ensures i + walked t i .at) (a .out .now)) ∙ law .1,
-    )
+    let k = t .before .before in
+    let a = k .before .before .before .before .before .before .before .args in
+    let o = a .out .now in
+    let s = a .book .now in
+    let kind = kindOf (bookKind s) in
+    let end = endsAt kind (a .key .now) s (a .k) in
+    let same = there kind (a .key .now) s (a .k) in
+    let n = t .to .result .number in
+    let at = 16 + t .to .result .at in
+    let read = kindOf (k .of-book .result) in
+    tests-fetch kind (a .key .now) s (a .k) o Done (done (k .before))
+    (hands-same o
+    ((λ i. outcomeHere (kindOf (k .of-book .ensures i)) (a .key .now) (openingBytes s) (walked t i .number) (drop (16 + walked t i .at) s) (length o))
+    ∙ ap (λ y. outcomeHere kind (a .key .now) (openingBytes s) (end .number) y (length o)) same)
+    ((λ i. textAt (kindOf (k .of-book .ensures i)) (a .key .now) (openingBytes s) (walked t i .number) (drop (16 + walked t i .at) s))
+    ∙ ap (textAt kind (a .key .now) (openingBytes s) (end .number)) same)
+    (hands-without
+    (outcomeHere read (a .key .now) (openingBytes s) n (drop at s) (length o)) (textAt read (a .key .now) (openingBytes s) n (drop at s)) o
+    (nextOf read at (frameAt read n (drop at s)))
+    (f .at-place .ensures) (c .without-next .ensures)))
 
 pub fetch-spec : {M : Type 1} → statement M
 fetch-spec =
     tie.close
     (tie.spec
     (λ c κs. search needs)
-    (λ c κs. search needs)
-    (λ c. search needs)
     (λ c. search needs)
     (λ c. search needs)
     (λ c κs. search needs)
-    add-fetch-placed
-    (λ c κs. search needs)
-    (λ c κs. search needs)
+    sub-to
+    part-to-start
     (λ c. search needs)
-    returns)
+    (λ c κs. search needs)
+    add-at-place
+    at-place-requires
+    (λ c κs. search needs)
+    returns
+    (λ c. search needs)
+    returns-2)

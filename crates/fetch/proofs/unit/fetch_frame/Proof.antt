@@ -25,11 +25,15 @@ close-requires c κs =
 
 -- a unit that was read
 module _ (c : tie.After-known-told2) where
-  unit : let h = c .before .before .before in let a = h .before .before .before .before .before .args in frameAt (kindOf (a .kind)) (a .n) (a .s .now) ≡ Unit (c .before .frame2 .given .0 .0)
+  unit : let h = c .before .before .before in let a = h .before .before .before .before .before .args in
+      frameAt (kindOf (a .kind)) (a .n) (a .s .now) ≡ Unit (c .before .frame2 .given .0 .0)
   unit = let h = c .before .before .before in sym (h .at .ensures) ∙ c .before .frame2 .given .1
 
-  told : let a = c .before .before .before .before .before .before .before .before .args in UnitTold (kindOf (a .kind)) (a .n) (c .before .frame2 .given .0 .0) (a .s .now)
-  told = let a = c .before .before .before .before .before .before .before .before .args in unit-told (kindOf (a .kind)) (a .n) (c .before .frame2 .given .0 .0) (a .s .now) unit
+  told : let a = c .before .before .before .before .before .before .before .before .args in
+      UnitTold (kindOf (a .kind)) (a .n) (c .before .frame2 .given .0 .0) (a .s .now)
+  told =
+      let a = c .before .before .before .before .before .before .before .before .args in
+      unit-told (kindOf (a .kind)) (a .n) (c .before .frame2 .given .0 .0) (a .s .now) unit
 
 unit-len-requires : tie.Need-unit-len-requires
 unit-len-requires c κs = let t = told c in search needs

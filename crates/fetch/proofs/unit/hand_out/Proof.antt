@@ -28,7 +28,8 @@ passed : (c : tie.Else1) → let t = c .before .before .before .before .before .
 passed c = tested (c .before) ∙ not-false (c .before .is-text .result) (c .if1 .left)
 
 -- the source length that the code has
-source : (c : tie.After-pair) → c .pair .result ≡ sourceLength (c .before .before .before .before .before .before .before .before .before .before .args .text .now)
+source : (c : tie.After-pair) → c .pair .result
+    ≡ sourceLength (c .before .before .before .before .before .before .before .before .before .before .args .text .now)
 source c =
     let p = c .before .before .before .before .before .before .before .before .before .before in
     c .pair .ensures ∙ stated (p .args .text .now) (p .pre)

@@ -11,9 +11,8 @@ use Rattle.verifying.specs.Within.{withinBuffer}
 use Rattle.parser.proofs.Frames.{UnitTold, unit-told}
 use Rattle.seals.specs.Seal.{unitOpened}
 use Rattle.seals.proofs.Verified.{unit-opened-long}
-use Rattle.sealing.specs.Seal.{written}
-use Rattle.fetch.specs.Fetch.{handedOut, textOutcome, fetchReport}
-use Rattle.fetch.proofs.Units.{unitTag, unit-differs, unit-agreed, unit-held}
+use Rattle.fetch.specs.Fetch.{andThen, textOutcome}
+use Rattle.fetch.proofs.Units.{unitTag, unit-by, unit-held}
 use Rattle.fetch.proofs.Handed.{hands-same}
 use Rattle.fetch.proofs.unit.unit.Statement.{statement}
 use Rattle.fetch.proofs.unit.unit.Tie as tie
@@ -45,48 +44,43 @@ module _ (c : tie.After-open-within) where
       let a = p .args in
       let r = u .unit-parts .ensures in
       let f = u .before .suite .ensures in
-      ap (take (a .m)) (c .open-within .ensures .1 ∙ (λ i. withinBuffer (f i .cipher) (f i .steps) (a .key .now) (r .nonceIs i) (r .alongIs i) (r .sealedIs i) (replicate 8208 0)))
+      ap (take (a .m)) (c .open-within .ensures .1
+      ∙ (λ i. withinBuffer (f i .cipher) (f i .steps) (a .key .now) (r .nonceIs i) (r .alongIs i) (r .sealedIs i) (replicate 8208 0)))
       ∙ unit-held (a .kind) (a .key .now) (a .front .now) (a .n) (p .pre .0) (a .m) (a .s .now) (told p) (replicate 8208 0)
       (subst (λ k. a .m ≤ k) (sym (length-replicate {A = ℕ} 8208 0)) (omega (arith, told p .most)))
 
-  long : let a = c .before .before .before .before .before .before .before .before .before .before .before .before .before .before .args in length (take (a .m) (c .open-within .last .1 .1 .1 .1 .1 .1 .0)) ≡ a .m
+  long : let a = c .before .before .before .before .before .before .before .before .before .before .before .before .before .before .args in
+      length (take (a .m) (c .open-within .last .1 .1 .1 .1 .1 .1 .0)) ≡ a .m
   long =
       let p = c .before .before .before .before .before .before .before .before .before .before .before .before .before .before in
       let a = p .args in
       ap length held ∙ unit-opened-long (a .kind) (a .key .now) (a .front .now) (a .n) (p .pre .0) (a .m) (a .s .now) (told p)
 
 array-share-prefix-text : tie.Need-array-share-prefix-text
-array-share-prefix-text c = omega (arith, c .before .before .text2 .given, told (c .before .before .before .before .before .before .before .before .before .before .before .before .before .before .before .before .before) .most)
+array-share-prefix-text c =
+    let p = c .before .before .before .before .before .before .before .before .before .before .before .before .before .before .before in
+    omega (arith, c .text2 .given, told p .most)
 
-hand-out-requires : tie.Need-hand-out-requires
-hand-out-requires c κs =
-    let w = c .before .before .before .before .before in
+slice-aggregate-if-agreed : tie.Need-slice-aggregate-if-agreed
+slice-aggregate-if-agreed c = sym (long (c .before .before))
+
+if-agreed-requires : tie.Need-if-agreed-requires
+if-agreed-requires c κs =
+    let w = c .before .before .before in
     omega (arith, long w, told (w .before .before .before .before .before .before .before .before .before .before .before .before .before .before) .least)
 
 returns : tie.Need-returns
 returns c =
-    let w = c .before .before .before .before in
-    let p = w .before .before .before .before .before .before .before .before .before .before .before .before .before .before in
-    let a = p .args in
-    let text = unitOpened (kindOf (a .kind)) (a .key .now) (a .front .now) (a .n) (a .m) (a .s .now) in
-    let e = unit-differs (a .kind) (a .key .now) (a .front .now) (a .n) (p .pre .0) (a .m) (a .s .now) (told p)
-    (c .before .answer .given .0 .0) (length (a .out .now)) (sym (answer-is w) ∙ c .before .answer .given .1) in (
-      ap (λ r. fetchReport r text) e,
-      ap (λ r. written r (handedOut text) (a .out .now)) e,
-    )
-
-returns-2 : tie.Need-returns-2
-returns-2 c =
     let h = c .before .before in
-    let t = h .before .before .before in
-    let w = t .before .before .before in
+    let w = h .before .before .before .before in
     let p = w .before .before .before .before .before .before .before .before .before .before .before .before .before .before in
     let a = p .args in
+    let tag = w .open-within .result in
     hands-same (a .out .now)
-    (ap (λ x. textOutcome x (length (a .out .now))) (held w)
-    ∙ unit-agreed (a .kind) (a .key .now) (a .front .now) (a .n) (p .pre .0) (a .m) (a .s .now) (told p) (length (a .out .now)) (sym (answer-is w) ∙ t .enum-told .given .1))
+    (ap (λ x. andThen tag (textOutcome x (length (a .out .now)))) (held w)
+    ∙ unit-by (a .kind) (a .key .now) (a .front .now) (a .n) (p .pre .0) (a .m) (a .s .now) (told p) tag (length (a .out .now)) (sym (answer-is w)))
     (held w)
-    (h .hand-out .ensures)
+    (h .if-agreed .ensures)
 
 pub unit-spec : {M : Type 1} → statement M
 unit-spec =
@@ -102,11 +96,8 @@ unit-spec =
     (λ c. search needs)
     (λ c. search needs)
     (λ c κs. search needs)
-    (λ c. search needs)
-    (λ c. search needs)
     array-share-prefix-text
-    (λ c. sym (long (c .before .before .before .before)))
-    hand-out-requires
-    returns
+    slice-aggregate-if-agreed
+    if-agreed-requires
     (λ c. search needs)
-    returns-2)
+    returns)

@@ -14,7 +14,8 @@ returns c =
     let t = c .before .before in
     let b = t .before in
     let a = b .before .before .args in
-    rw (eq-eqb (getD (a .s .now) 0 0) (kindOf (a .kind) .closeTag) (sym (b .byte-at .ensures) ∙ c .before .if1 .taken ∙ t .close-tag .ensures)) (c .close-at .ensures)
+    rw (eq-eqb (getD (a .s .now) 0 0) (kindOf (a .kind) .closeTag) (sym (b .byte-at .ensures) ∙ c .before .if1 .taken ∙ t .close-tag .ensures))
+    (c .close-at .ensures)
 
 returns-2 : tie.Need-returns-2
 unfolding beginsClose frameAt
@@ -22,7 +23,8 @@ returns-2 c =
     let t = c .before .before in
     let b = t .before in
     let a = b .before .before .args in
-    rw (ne-eqb (getD (a .s .now) 0 0) (kindOf (a .kind) .closeTag) (λ e. c .before .if1 .left (b .byte-at .ensures ∙ e ∙ sym (t .close-tag .ensures)))) (c .unit-at .ensures)
+    rw (ne-eqb (getD (a .s .now) 0 0) (kindOf (a .kind) .closeTag) (λ e. c .before .if1 .left (b .byte-at .ensures ∙ e ∙ sym (t .close-tag .ensures))))
+    (c .unit-at .ensures)
 
 pub at-spec : {M : Type 1} → statement M
 at-spec =

@@ -59,7 +59,11 @@ returns-3 c =
     let e = g .before in
     let o = e .before .before .before .before in
     let a = o .before .before .before .before .before .args in
-    rw (first o, found (second (e .before)) (e .if2 .left), ne-eqb (frameNumber (kindOf (a .kind)) (a .s .now)) (a .n) (λ q. c .if3 .taken (g .number-at .ensures ∙ q)))
+    rw (
+      first o,
+      found (second (e .before)) (e .if2 .left),
+      ne-eqb (frameNumber (kindOf (a .kind)) (a .s .now)) (a .n) (λ q. c .if3 .taken (g .number-at .ensures ∙ q)),
+    )
 
 returns-4 : tie.Need-returns-4
 unfolding closeTests
@@ -68,7 +72,11 @@ returns-4 c =
     let e = g .before in
     let o = e .before .before .before .before in
     let a = o .before .before .before .before .before .args in
-    rw (first o, found (second (e .before)) (e .if2 .left), eq-eqb (frameNumber (kindOf (a .kind)) (a .s .now)) (a .n) (sym (g .number-at .ensures) ∙ c .if3 .left))
+    rw (
+      first o,
+      found (second (e .before)) (e .if2 .left),
+      eq-eqb (frameNumber (kindOf (a .kind)) (a .s .now)) (a .n) (sym (g .number-at .ensures) ∙ c .if3 .left),
+    )
 
 pub close-at-spec : {M : Type 1} → statement M
 close-at-spec =

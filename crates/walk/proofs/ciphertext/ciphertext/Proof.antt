@@ -1,11 +1,10 @@
 -- The part stands within the book.
-use mathlib.Core.Path.{ap, _∙_}
+use mathlib.Core.Path.{refl, ap, _∙_}
 use Prim.Native.Nat.{_+_, _≤_}
-use native.Mathlib.Nat.{add-sub-cancel-left}
+use native.Mathlib.Nat.{add-comm, add-sub-cancel-left}
 use borrow.Author.Needs.{needs}
 use lib.ListN.{length, take, drop}
 use Rattle.walk.specs.declared.ciphertext.Part.{Part}
-use Rattle.walk.specs.Ciphertext.{ciphertextPart}
 use Rattle.walk.proofs.Places.{ciphertext-within}
 use Rattle.walk.proofs.ciphertext.ciphertext.Statement.{statement}
 use Rattle.walk.proofs.ciphertext.ciphertext.Tie as tie
@@ -22,12 +21,17 @@ part-result-end : tie.Need-part-result-end
 part-result-end c = let h = within c in search needs
 
 returns : tie.Need-returns
-unfolding ciphertextPart
 returns c =
     let p = c .before .before .place .result in
-    let s = c .before .before .before .before .args .book .now in
-    ap (λ n. take n (drop (p .at) s)) (add-sub-cancel-left (p .at) (p .len))
-    ∙ ap (λ (q : Part). take (q .len) (drop (q .at) s)) (c .before .before .place .ensures)
+    let b = c .before .before .before .before .args .book in
+    let is = c .before .before .place .ensures in
+    record {
+      bytes =
+          ap (λ n. take n (drop (p .at) (b .now))) (add-sub-cancel-left (p .at) (p .len))
+          ∙ ap (λ (q : Part). take (q .len) (drop (q .at) (b .now))) is;
+      block = refl;
+      offset = add-comm (p .at) (b .ptr .1) ∙ ap (λ (q : Part). b .ptr .1 + q .at) is;
+    }
 
 pub ciphertext-spec : {M : Type 1} → statement M
 ciphertext-spec =

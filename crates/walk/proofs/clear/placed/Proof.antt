@@ -16,12 +16,14 @@ use Rattle.walk.proofs.clear.placed.Tie as tie
 -- by what was tested
 tested : (c : tie.After-tests) (t : Answer) → c .tests .result ≡ t → let a = c .before .before .args in
     let kind = kindOf (bookKind (a .book .now)) in
-    clearUnless t (clearOf kind (a .at) (drop (a .at) (a .book .now)) (frameAt kind (a .n) (drop (a .at) (a .book .now)))) ≡ placedClear (a .n) (a .at) (a .book .now)
+    clearUnless t (clearOf kind (a .at) (drop (a .at) (a .book .now)) (frameAt kind (a .n) (drop (a .at) (a .book .now))))
+    ≡ placedClear (a .n) (a .at) (a .book .now)
 unfolding placedClear placedClearOf
 tested c t e =
     let a = c .before .before .args in
     let kind = kindOf (bookKind (a .book .now)) in
-    ap (λ (v : Answer). clearUnless v (clearOf kind (a .at) (drop (a .at) (a .book .now)) (frameAt kind (a .n) (drop (a .at) (a .book .now))))) (sym e ∙ c .tests .ensures)
+    ap (λ (v : Answer). clearUnless v (clearOf kind (a .at) (drop (a .at) (a .book .now)) (frameAt kind (a .n) (drop (a .at) (a .book .now)))))
+    (sym e ∙ c .tests .ensures)
 
 within : (c : tie.After-lesser) → let a = c .before .before .before .before .before .before .args in
     c .lesser .result ≤ length (a .book .now)

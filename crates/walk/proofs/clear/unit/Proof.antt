@@ -23,7 +23,8 @@ passed c =
     opening-passed (t .before .before .args .book .now) (sym (t .tests .ensures) ∙ c .enum-told .given .1) .1
 
 -- where the walk ends
-ended : (c : tie.After-to) → let a = c .before .before .before .before .before .before .before .args in c .to .result ≡ walkTo (kindOf (bookKind (a .book .now))) (a .k) (drop 16 (a .book .now))
+ended : (c : tie.After-to) → let a = c .before .before .before .before .before .before .before .args in
+    c .to .result ≡ walkTo (kindOf (bookKind (a .book .now))) (a .k) (drop 16 (a .book .now))
 ended c =
     let k = c .before .before in
     let a = k .before .before .before .before .before .args in
@@ -49,7 +50,8 @@ returns c =
     let kind = kindOf (bookKind s) in
     let p = walkTo kind (a .k) (afterOpening s) in
     c .none .ensures
-    ∙ ap (λ (v : Answer). clearUnless v (clearOf kind (16 + p .at) (drop (16 + p .at) s) (frameAt kind (p .number) (drop (16 + p .at) s)))) (sym (c .before .before .tested .given .1) ∙ t .tests .ensures)
+    ∙ ap (λ (v : Answer). clearUnless v (clearOf kind (16 + p .at) (drop (16 + p .at) s) (frameAt kind (p .number) (drop (16 + p .at) s))))
+    (sym (c .before .before .tested .given .1) ∙ t .tests .ensures)
 
 returns-2 : tie.Need-returns-2
 unfolding placedClear unitClear unitClearOf afterOpening
