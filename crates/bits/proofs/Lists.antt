@@ -1,12 +1,12 @@
 -- Laws of lists given by index.
 use mathlib.Core.Path.{_≡_, refl, sym, ap, _∙_}
 use mathlib.Core.List.{List}
-use Prim.Native.Nat.{ℕ, zero, suc, _+_, _≤_, _<_}
+use Prim.Native.Nat.{ℕ, zero, suc, _+_, _-_, _≤_, _<_}
 use native.Mathlib.Nat.{zero-lt-suc}
 use native.Mathlib.Decide.{ℕ-discrete}
 use native.Mathlib.Omega.{arith}
 use lib.ListN.{length, getD, set, take, drop, length-set, length-drop}
-use lib.Seq.{ext-getD, getD-set-same, getD-set-other, getD-take, getD-drop, length-take-le}
+use lib.Seq.{ext-getD, getD-set-same, getD-set-other, getD-take, getD-drop, length-take-le, take-all}
 use Rattle.bits.specs.Table.{tab}
 
 pub length-tab : (k : ℕ) (f : ℕ → ℕ) → length (tab k f) ≡ k
@@ -64,3 +64,7 @@ part-at n l at h =
     sym
     (filled-all {k = n} {f = λ i. getD l (at + i) 0} {l = take n (drop at l)}
     (record { long = long; done = λ i hi. getD-take n (drop at l) i 0 hi ∙ getD-drop at l i 0 }))
+
+-- the part of a string from a place on
+pub part-rest : (at : ℕ) (s : List ℕ) → take (length s - at) (drop at s) ≡ drop at s
+part-rest at s = take-all (length s - at) (drop at s) (rw length-drop (omega arith))

@@ -27,7 +27,8 @@ use Rattle.c_book.specs.ForC.{Run, none as noneRun, more as moreRun, InC
 
 -- what any list leaves
 left-by : (s : Start) (cs : List Call) → Each (Callable writerKind) cs
-    → Leaves writerKind s (units writerKind cs (started s)) (hasClose writerKind cs (started s)) (sealings writerKind cs (started s)) (afterCalls writerKind cs (started s))
+    → Leaves writerKind s (units writerKind cs (started s)) (hasClose writerKind cs (started s)) (sealings writerKind cs (started s))
+    (afterCalls writerKind cs (started s))
 left-by s cs each = writer-half writerKind (formed newest) .leaves s cs each
 
 -- one call more at the end

@@ -12,7 +12,8 @@ use Rattle.decimal.specs.Decimal.{digitsIn, digits, Written}
 use Rattle.decimal.proofs.Digits.{digits-u64}
 use Rattle.suites.specs.Refusal.{number}
 use Rattle.suites.specs.declared.refusal.Refusal.the-variants.{TagDiffers}
-use Rattle.sums.proofs.Sums.{part-rest, part-none}
+use Rattle.bits.proofs.Lists.{part-rest}
+use Rattle.sums.proofs.Sums.{part-none}
 use Rattle.parser.specs.Opening.{checkTests}
 use Rattle.checker.specs.Check.{checkAnswer, checkAnswerOf}
 use Rattle.checker.specs.declared.check.CheckAnswer.{CheckAnswer}

@@ -1,7 +1,7 @@
 -- Numbers and fields read from their bytes.
 use mathlib.Core.Path.{_≡_, sym, ap, _∙_}
 use mathlib.Core.Bool.{false, _&&_, and-true}
-use mathlib.Core.List.{List, [], _∷_}
+use mathlib.Core.List.{List}
 use Prim.Native.Nat.{ℕ, _+_, _*_, _^_, _≤_, _<_}
 use native.Mathlib.Nat.{pow-le-pow-right}
 use native.Mathlib.Decide.{ℕ-discrete}
@@ -14,8 +14,8 @@ use lib.Seq.{take-all, take-suc}
 use Rattle.bits.specs.Bytes.{Bytes, numberOf}
 use Rattle.bits.proofs.BigEndian.{numberOf-lt, numberOf-snoc}
 use Rattle.bits.proofs.Bytes.{bytes-take}
-use Rattle.bits.proofs.Lists.{part-at}
 use Rattle.fields.specs.Field.{fieldLength, hasField}
+use Rattle.fields.proofs.Pair.{pair-at}
 
 -- the number of the first i bytes
 module _ (s : List ℕ) (i : ℕ) where
@@ -39,10 +39,8 @@ module _ (s : List ℕ) (i : ℕ) where
 
 -- a field's length, of its bytes
 pub length-is : (s : List ℕ) → 3 ≤ length s → getD s 1 0 * 256 + getD s 2 0 ≡ fieldLength s
-unfolding fieldLength numberOf
-length-is s h =
-    let two : getD s 1 0 * 256 + getD s 2 0 ≡ numberOf (getD s 1 0 ∷ getD s 2 0 ∷ []) = omega arith in
-    two ∙ ap numberOf (part-at 2 s 1 h)
+unfolding fieldLength
+length-is s h = pair-at s 1 h
 
 module _ (tag n : ℕ) (s : List ℕ) where
   pub bytes-missing : length s < 3 + n → false ≡ hasField tag n s

@@ -5,7 +5,8 @@ use Prim.Native.Nat.{ℕ, _+_, _-_, _≤_}
 use native.Mathlib.Omega.{arith}
 use lib.ListN.{length, take, drop}
 use lib.Seq.{take-at, drop-at, drop-drop}
-use Rattle.sums.proofs.Sums.{part-rest, part-none}
+use Rattle.bits.proofs.Lists.{part-rest}
+use Rattle.sums.proofs.Sums.{part-none}
 
 -- q, which is p, was copied to the start of d
 pub copied : (at : ℕ) (p q d x : List ℕ) → length p ≡ at → q ≡ p → x ≡ q ++ drop (length q) d → x ≡ p ++ drop at d

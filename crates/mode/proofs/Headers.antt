@@ -21,7 +21,8 @@ use Rattle.sums.specs.Sums.{sumFrom}
 use Rattle.text_blocks.specs.Text.{Usable}
 use Rattle.text_blocks.specs.Under.{enciphers}
 use Rattle.text_blocks.proofs.Chunks.{enciphers-blockwise, enciphered-strung}
-use Rattle.sums.proofs.Sums.{part-rest, sum-ext, sum-add, sum-of, filled-whole}
+use Rattle.bits.proofs.Lists.{part-rest}
+use Rattle.sums.proofs.Sums.{sum-ext, sum-add, sum-of, filled-whole}
 
 -- the first k blocks, copied over other bytes
 block-copied : (k : ℕ) (h z : List ℕ) → 16 * k ≤ length h → (i : ℕ) → i < k → block (take (16 * k) h ++ z) i ≡ block h i

@@ -2,11 +2,11 @@
 use mathlib.Core.Path.{_≡_, refl, sym, ap, _∙_}
 use mathlib.Core.Bool.{true, and-eq-true-iff}
 use mathlib.Core.List.{List, [], _∷_, _++_, append-assoc, append-nil}
-use Prim.Native.Nat.{ℕ, zero, suc, _+_, _-_, _^_, _≤_, _<_}
+use Prim.Native.Nat.{ℕ, zero, suc, _+_, _^_, _≤_, _<_}
 use native.Mathlib.Nat.{zero-add, suc-add}
 use native.Mathlib.Omega.{arith}
-use lib.ListN.{length, take, drop, length-drop, take-append-drop}
-use lib.Seq.{length-take-le, take-all, take-nil, take-take, drop-drop, getD-take}
+use lib.ListN.{length, take, drop, take-append-drop}
+use lib.Seq.{length-take-le, take-nil, take-take, drop-drop, getD-take}
 use Rattle.bits.specs.Bytes.{Bytes, bigEndian, numberOf}
 use Rattle.bits.proofs.BigEndian.{length-bigEndian, numberOf-lt, bigEndian-numberOf, numberOf-bigEndian}
 use Rattle.bits.proofs.Lists.{part-at}
@@ -103,10 +103,6 @@ opening-told s bytes e =
     let suite = unless-passed (listed (openingSuite s .cipher) (openingSuite s .steps)) _ _ (has .1) in
     let both = and-eq-true-iff (hasField 0x01 8 s) (hasField 0x02 2 (afterField 8 s)) .0 (has .0) in
     (suite .0, number-fits s bytes (both .0) (both .1), opening-held s bytes (both .0) (both .1))
-
--- the part of a string from a place on
-pub part-rest : (at : ℕ) (s : List ℕ) → take (length s - at) (drop at s) ≡ drop at s
-part-rest at s = take-all (length s - at) (drop at s) (rw length-drop (omega arith))
 
 -- opening fields that pass their tests
 pub opening-passed : (s : List ℕ) → openingTests s ≡ Done → (listed (openingSuite s .cipher) (openingSuite s .steps) ≡ true) × (16 ≤ length s)

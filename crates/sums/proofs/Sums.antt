@@ -49,11 +49,7 @@ xor-test x y = by (ℕ-discrete x y)
 pub differs-more : (d x y : ℕ) → eqb (bitOr d (bitXor x y)) 0 ≡ (eqb d 0 && eqb x y)
 differs-more d x y = or-test d (bitXor x y) ∙ ap (λ (t : Bool). eqb d 0 && t) (xor-test x y)
 
--- the part of a string from a place on
-pub part-rest : (at : ℕ) (s : List ℕ) → take (length s - at) (drop at s) ≡ drop at s
-part-rest at s = take-all (length s - at) (drop at s) (rw length-drop (omega arith))
-
--- and nothing stands behind it
+-- nothing stands behind the part of a string from a place on
 pub part-none : (at : ℕ) (s : List ℕ) → drop (length s - at) (drop at s) ≡ []
 part-none at s = drop-of-length-le (drop at s) {i = length s - at} (rw length-drop (omega arith))
 

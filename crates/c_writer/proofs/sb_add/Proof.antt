@@ -12,7 +12,8 @@ returns c =
     let h = c .before .before .before .before .before .before .before in
     let f = h .before .before .before .before in
     let a = f .before .before .before .before .before .args in
-    refused-calls (add (unitOf (a .from .now) (a .to .now) (a .source .now) (a .target .now))) (kept (a .writer .now) (a .buf .now)) (f .from-bytes .ensures) (h .add .ensures) _
+    refused-calls (add (unitOf (a .from .now) (a .to .now) (a .source .now) (a .target .now))) (kept (a .writer .now) (a .buf .now))
+    (f .from-bytes .ensures) (h .add .ensures) _
     (c .before .before .answer .given .1) (c .number .result) (c .number .ensures)
 
 returns-2 : tie.Need-returns-2
@@ -20,7 +21,8 @@ returns-2 c =
     let h = c .before .before .before .before .before .before in
     let f = h .before .before .before .before in
     let a = f .before .before .before .before .before .args in
-    done-calls (add (unitOf (a .from .now) (a .to .now) (a .source .now) (a .target .now))) (kept (a .writer .now) (a .buf .now)) (f .from-bytes .ensures) (h .add .ensures) (c .before .enum-told .given .1)
+    done-calls (add (unitOf (a .from .now) (a .to .now) (a .source .now) (a .target .now))) (kept (a .writer .now) (a .buf .now)) (f .from-bytes .ensures)
+    (h .add .ensures) (c .before .enum-told .given .1)
     (c .to-bytes .result) (c .to-bytes .ensures)
 
 pub sb-add-spec : {M : Type 1} → statement M

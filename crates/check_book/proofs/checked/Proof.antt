@@ -5,7 +5,7 @@ use borrow.Author.Needs.{needs}
 use lib.ListN.{take, drop-of-length-le}
 use lib.Seq.{take-all, length-take-le}
 use Rattle.checker.specs.Check.{checkAnswer}
-use Rattle.sums.proofs.Sums.{part-rest}
+use Rattle.bits.proofs.Lists.{part-rest}
 use Rattle.check_book.proofs.checked.Statement.{statement}
 use Rattle.check_book.proofs.checked.Tie as tie
 

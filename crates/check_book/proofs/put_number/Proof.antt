@@ -7,7 +7,7 @@ use borrow.Author.Needs.{needs}
 use lib.ListN.{length, take, drop, length-drop}
 use Rattle.decimal.specs.Decimal.{digits, digitsWithin}
 use Rattle.decimal.proofs.Digits.{digits-u64, digitsWithin-all}
-use Rattle.sums.proofs.Sums.{part-rest}
+use Rattle.bits.proofs.Lists.{part-rest}
 use Rattle.check_book.proofs.Lines.{at-place}
 use Rattle.check_book.proofs.put_number.Statement.{statement}
 use Rattle.check_book.proofs.put_number.Tie as tie

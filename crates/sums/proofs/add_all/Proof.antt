@@ -6,7 +6,8 @@ use borrow.Author.Needs.{needs}
 use lib.ListN.{length, drop}
 use Rattle.bits.specs.Bytes.{added}
 use Rattle.calls.specs.Calls.{filled}
-use Rattle.sums.proofs.Sums.{part-rest, all-whole, all-but-last}
+use Rattle.bits.proofs.Lists.{part-rest}
+use Rattle.sums.proofs.Sums.{all-whole, all-but-last}
 use Rattle.sums.proofs.add_all.Statement.{statement}
 use Rattle.sums.proofs.add_all.Tie as tie
 

@@ -10,7 +10,8 @@ use Rattle.calls.specs.Tweak.{textTweak}
 use Rattle.calls.proofs.Tweaks.{length-tweak}
 use Rattle.blockwise.specs.Blocks.{block, strung}
 use Rattle.text_blocks.specs.Under.{numbered, firstBlocks}
-use Rattle.sums.proofs.Sums.{part-rest, part-none}
+use Rattle.bits.proofs.Lists.{part-rest}
+use Rattle.sums.proofs.Sums.{part-none}
 use Rattle.text_blocks.proofs.Chunks.{either-blockwise, left-is, done-is, length-done, more-done}
 use Rattle.text_blocks.proofs.blocks.Statement.{statement}
 use Rattle.text_blocks.proofs.blocks.Tie as tie

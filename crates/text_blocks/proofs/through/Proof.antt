@@ -15,7 +15,8 @@ use Rattle.calls.proofs.Tweaks.{length-tweak}
 use Rattle.text_blocks.specs.Under.{enciphers, either, numbered}
 use Rattle.text_blocks.proofs.Chunks.{either-blockwise}
 use Rattle.text_blocks.proofs.Parts.{before-whole, front-blocks, through-before, through-none, through-last}
-use Rattle.sums.proofs.Sums.{part-rest, part-none}
+use Rattle.bits.proofs.Lists.{part-rest}
+use Rattle.sums.proofs.Sums.{part-none}
 use Rattle.text_blocks.proofs.through.Statement.{statement}
 use Rattle.text_blocks.proofs.through.Tie as tie
 

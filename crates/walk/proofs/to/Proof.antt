@@ -13,7 +13,7 @@ use Rattle.parser.specs.declared.frame.Frame.{Frame}
 use Rattle.parser.specs.declared.frame.Frame.the-variants.{Unit, Close, Refused}
 use Rattle.parser.specs.Frame.{frameAt}
 use Rattle.parser.proofs.Frames.{unit-told}
-use Rattle.parser.proofs.Openings.{part-rest}
+use Rattle.bits.proofs.Lists.{part-rest}
 use Rattle.walk.specs.Walk.{pastUnit, walkTo}
 use Rattle.walk.proofs.Places.{unit-within, placeOf, walkFrom, turn-first, turn-last, turn}
 use Rattle.walk.proofs.to.Statement.{statement}

@@ -8,7 +8,7 @@ use Rattle.suites.specs.declared.refusal.Answer.{Answer}
 use Rattle.kinds.specs.Kind.{kindOf, bookKind}
 use Rattle.parser.specs.Frame.{mostUnits}
 use Rattle.parser.specs.Opening.{openingBytes, afterOpening}
-use Rattle.parser.proofs.Openings.{part-rest}
+use Rattle.bits.proofs.Lists.{part-rest}
 use Rattle.seals.specs.Parts.{Under}
 use Rattle.seals.proofs.Tested.{tested-under}
 use Rattle.checker.specs.Check.{checkFrom, afterTests, checkAnswerOf, checkAnswer}

@@ -11,7 +11,7 @@ use Rattle.parser.specs.Frame.{mostUnits}
 use Rattle.parser.proofs.Frames.{UnitTold}
 use Rattle.checker.specs.declared.check.CheckAnswer.the-variants.{Accepted}
 use Rattle.checker.specs.Check.{checkedAt, checkFrom}
-use Rattle.parser.proofs.Openings.{part-rest}
+use Rattle.bits.proofs.Lists.{part-rest}
 use Rattle.checker.proofs.Turns.{unit-there, checkAtPlace, turn-refused, turn-close, turn-unit}
 use Rattle.checker.proofs.check.check_from.Statement.{statement}
 use Rattle.checker.proofs.check.check_from.Tie as tie

@@ -8,7 +8,7 @@ use lib.Seq.{length-take-le}
 use Rattle.kinds.specs.Kind.{kindOf}
 use Rattle.parser.specs.Frame.{frameAt}
 use Rattle.parser.specs.Opening.{openingBytes}
-use Rattle.parser.proofs.Openings.{part-rest}
+use Rattle.bits.proofs.Lists.{part-rest}
 use Rattle.seals.proofs.Tested.{tested-under}
 use Rattle.walk.proofs.Places.{drop-least}
 use Rattle.fetch.specs.Fetch.{outcomeHere, textAt, nextOf}

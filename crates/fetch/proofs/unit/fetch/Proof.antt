@@ -7,7 +7,7 @@ use Rattle.suites.specs.declared.refusal.Answer.the-variants.{Done, Refused}
 use Rattle.kinds.specs.Kind.{kindOf, bookKind}
 use Rattle.parser.specs.Frame.{frameAt}
 use Rattle.parser.specs.Opening.{openingBytes, afterOpening, checkTests}
-use Rattle.parser.proofs.Openings.{part-rest}
+use Rattle.bits.proofs.Lists.{part-rest}
 use Rattle.seals.proofs.Tested.{tested-under}
 use Rattle.walk.specs.Walk.{walkTo}
 use Rattle.walk.proofs.Places.{walked-within}

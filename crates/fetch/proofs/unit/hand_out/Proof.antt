@@ -9,7 +9,7 @@ use borrow.Author.Tests.{not-true, not-false}
 use lib.ListN.{length, drop}
 use Rattle.fields.specs.Unit.{sourceLength, textInRange}
 use Rattle.seals.proofs.Verified.{stated}
-use Rattle.parser.proofs.Openings.{part-rest}
+use Rattle.bits.proofs.Lists.{part-rest}
 use Rattle.fetch.specs.declared.unit.FetchAnswer.the-variants.{Fetched}
 use Rattle.fetch.proofs.Handed.{hands-refused, not-text, no-room, source-within, text-hands}
 use Rattle.fetch.proofs.unit.hand_out.Statement.{statement}

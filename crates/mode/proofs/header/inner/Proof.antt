@@ -9,7 +9,7 @@ use Rattle.calls.specs.Tweak.{headerTweak}
 use Rattle.blockwise.specs.Blocks.{block}
 use Rattle.text_blocks.specs.Under.{enciphers}
 use Rattle.mode.proofs.Headers.{sum-chunk}
-use Rattle.sums.proofs.Sums.{part-rest}
+use Rattle.bits.proofs.Lists.{part-rest}
 use Rattle.mode.proofs.header.inner.Statement.{statement}
 use Rattle.mode.proofs.header.inner.Tie as tie
 

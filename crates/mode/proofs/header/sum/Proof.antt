@@ -9,7 +9,7 @@ use Rattle.calls.specs.Calls.{filled}
 use Rattle.calls.specs.Tweak.{specialTweak}
 use Rattle.text_blocks.specs.Under.{enciphers}
 use Rattle.mode.proofs.Headers.{header-none, header-all}
-use Rattle.sums.proofs.Sums.{part-rest}
+use Rattle.bits.proofs.Lists.{part-rest}
 use Rattle.mode.proofs.header.sum.Statement.{statement}
 use Rattle.mode.proofs.header.sum.Tie as tie
 

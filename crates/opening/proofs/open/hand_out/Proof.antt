@@ -10,7 +10,7 @@ use lib.Seq.{length-take-le, take-length, take-at, drop-at, drop-drop}
 use Rattle.calls.specs.Pieces.{through}
 use Rattle.text_blocks.specs.Under.{enciphers, deciphers}
 use Rattle.sealing.specs.Passes.{textPart}
-use Rattle.sums.proofs.Sums.{part-rest}
+use Rattle.bits.proofs.Lists.{part-rest}
 use Rattle.opening.proofs.Opened.{through-split}
 use Rattle.opening.proofs.open.hand_out.Statement.{statement}
 use Rattle.opening.proofs.open.hand_out.Tie as tie

@@ -7,7 +7,7 @@ use lib.ListN.{length, take, drop}
 use Rattle.suites.specs.declared.refusal.Answer.{Answer}
 use Rattle.kinds.specs.Kind.{kindOf, bookKind}
 use Rattle.parser.specs.Frame.{frameAt}
-use Rattle.parser.proofs.Openings.{part-rest}
+use Rattle.bits.proofs.Lists.{part-rest}
 use Rattle.walk.specs.Clear.{clearOf, clearUnless, placedClearOf, placedClear}
 use Rattle.walk.proofs.Places.{drop-least}
 use Rattle.walk.proofs.clear.placed.Statement.{statement}

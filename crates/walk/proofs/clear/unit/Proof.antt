@@ -8,7 +8,8 @@ use Rattle.suites.specs.declared.refusal.Answer.{Answer}
 use Rattle.kinds.specs.Kind.{kindOf, bookKind}
 use Rattle.parser.specs.Frame.{frameAt}
 use Rattle.parser.specs.Opening.{afterOpening}
-use Rattle.parser.proofs.Openings.{part-rest, opening-passed}
+use Rattle.bits.proofs.Lists.{part-rest}
+use Rattle.parser.proofs.Openings.{opening-passed}
 use Rattle.walk.specs.declared.Place.{Place}
 use Rattle.walk.specs.Walk.{walkTo}
 use Rattle.walk.specs.Clear.{clearOf, clearUnless, placedClearOf, placedClear, unitClearOf, unitClear}

@@ -15,7 +15,7 @@ use Rattle.kinds.proofs.Formed.{formed, two-letters, newest-kind}
 use Rattle.format.specs.Layout.{unitBytes}
 use Rattle.format.specs.Sealings.{unitSealing, sealingCalls}
 use Rattle.format.proofs.Lengths.{length-unitBytes}
-use Rattle.sums.proofs.Sums.{part-rest}
+use Rattle.bits.proofs.Lists.{part-rest}
 use Rattle.writer.specs.Writer.{addTests, addOutcome, addedTo}
 use Rattle.writer.proofs.Few.{unit-calls}
 use Rattle.writer.proofs.Handed.{add-handed}
@@ -46,7 +46,8 @@ module _ (c : tie.After-enum-told) where
   done : let p = c .before .before .before .before .before .before .before in addOutcome writerKind (p .args .self) (unit p) (length (p .args .buf .now)) ≡ Done
   done = sym (tests-are (c .before .before)) ∙ c .enum-told .given .1
 
-  given : let a = c .before .before .before .before .before .before .before .args in Addable writerKind (a .self) (a .from) (a .to) (length (a .source .now)) (length (a .target .now)) (length (a .buf .now))
+  given : let a = c .before .before .before .before .before .before .before .args in
+      Addable writerKind (a .self) (a .from) (a .to) (length (a .source .now)) (length (a .target .now)) (length (a .buf .now))
   unfolding addOutcome
   given =
       let a = c .before .before .before .before .before .before .before .args in
@@ -74,7 +75,8 @@ put-unit-requires c κs =
     (g .valid .listedSuite, g .range, rw (part-rest, length-drop) (omega (arith, r .unit-room .ensures .is, long-is r)))
 
 -- the cipher calls, in the writer's kind
-calls-are : (c : tie.After-put-unit) → let p = c .before .before .before .before .before .before .before .before .before .before .before .before in let w = p .args .self in
+calls-are : (c : tie.After-put-unit) → let p = c .before .before .before .before .before .before .before .before .before .before .before .before in
+    let w = p .args .self in
     c .put-unit .result ≡ length (sealingCalls (unitSealing writerKind (w .suite) (w .number) (w .count) (unit p)))
 calls-are c =
     let k = c .before .before .before .before .before .before .before .before in

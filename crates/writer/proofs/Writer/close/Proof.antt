@@ -14,7 +14,7 @@ use Rattle.kinds.proofs.Formed.{formed, newest-kind}
 use Rattle.format.specs.Layout.{closeBytes}
 use Rattle.format.specs.Sealings.{closeSealing, sealingCalls}
 use Rattle.format.proofs.Lengths.{length-closeBytes}
-use Rattle.sums.proofs.Sums.{part-rest}
+use Rattle.bits.proofs.Lists.{part-rest}
 use Rattle.writer.specs.Writer.{closeOutcome, closedOf}
 use Rattle.writer.proofs.Few.{close-calls}
 use Rattle.writer.proofs.Handed.{close-handed}
@@ -26,7 +26,8 @@ use Rattle.writer.proofs.Writer.close.Tie as tie
 kind-is : (c : tie.After-newest) → kindOf (c .newest .result) ≡ writerKind
 kind-is c = newest-kind (c .newest .ensures)
 
-tests-are : (c : tie.After-close-tests) → let a = c .before .before .before .args in c .close-tests .result ≡ closeOutcome writerKind (a .self) (length (a .buf .now))
+tests-are : (c : tie.After-close-tests) → let a = c .before .before .before .args in
+    c .close-tests .result ≡ closeOutcome writerKind (a .self) (length (a .buf .now))
 tests-are c =
     let a = c .before .before .before .args in
     c .close-tests .ensures ∙ ap (λ (k : Kind). closeOutcome k (a .self) (length (a .buf .now))) (kind-is (c .before))

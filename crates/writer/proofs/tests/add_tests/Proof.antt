@@ -55,7 +55,8 @@ to-lengths : (c : tie.Else1) → let p = c .before .before .before .before .befo
 to-lengths c =
     let p = c .before .before .before .before .before in
     to-languages (c .before .before)
-    ∙ passes (pairAllowed (p .args .from) (p .args .to)) LanguagesNotAllowed (lengthTest p) (sym (c .before .is-pair .ensures) ∙ not-false (c .before .is-pair .result) (c .if1 .left))
+    ∙ passes (pairAllowed (p .args .from) (p .args .to)) LanguagesNotAllowed (lengthTest p)
+    (sym (c .before .is-pair .ensures) ∙ not-false (c .before .is-pair .result) (c .if1 .left))
 
 module _ (c : tie.Else2) where
   range : let a = c .before .before .before .before .before .before .before .args in (1 ≤ a .s) × (a .s ≤ 4096) × (a .t ≤ 4096)
@@ -67,7 +68,8 @@ module _ (c : tie.Else2) where
   to-count =
       let p = c .before .before .before .before .before .before .before in
       to-lengths (c .before .before)
-      ∙ passes (inRange (p .args .s) (p .args .t)) SegmentLength (countTest p) (sym (c .before .in-range .ensures) ∙ not-false (c .before .in-range .result) (c .if2 .left))
+      ∙ passes (inRange (p .args .s) (p .args .t)) SegmentLength (countTest p)
+      (sym (c .before .in-range .ensures) ∙ not-false (c .before .in-range .result) (c .if2 .left))
 
 module _ (c : tie.Else3) where
   within : let a = c .before .before .before .before .before .before .before .before .before .args in Valid (kindOf (a .kind)) (a .w) (a .room)
@@ -79,28 +81,35 @@ module _ (c : tie.Else3) where
       let p = u .before .before .before .before .before .before .before .before in
       let limit = kindOf (p .args .kind) .unitLimit in
       let v = within in
-      to-count (u .before) ∙ passes (ltb (p .args .w .count) limit) TooManyUnits (roomTest p) (lt-ltb (p .args .w .count) limit (omega (arith, u .unit-limit .ensures .is)))
+      to-count (u .before)
+      ∙ passes (ltb (p .args .w .count) limit) TooManyUnits (roomTest p)
+      (lt-ltb (p .args .w .count) limit (omega (arith, u .unit-limit .ensures .is)))
 
 returns : tie.Need-returns
 returns c =
     let p = c .before .before .before .before .before in
     sym
     (to-languages (c .before .before)
-    ∙ refuses (pairAllowed (p .args .from) (p .args .to)) LanguagesNotAllowed (lengthTest p) (sym (c .before .is-pair .ensures) ∙ not-true (c .before .is-pair .result) (c .if1 .taken)))
+    ∙ refuses (pairAllowed (p .args .from) (p .args .to)) LanguagesNotAllowed (lengthTest p)
+    (sym (c .before .is-pair .ensures) ∙ not-true (c .before .is-pair .result) (c .if1 .taken)))
 
 returns-2 : tie.Need-returns-2
 returns-2 c =
     let p = c .before .before .before .before .before .before .before in
     sym
     (to-lengths (c .before .before)
-    ∙ refuses (inRange (p .args .s) (p .args .t)) SegmentLength (countTest p) (sym (c .before .in-range .ensures) ∙ not-true (c .before .in-range .result) (c .if2 .taken)))
+    ∙ refuses (inRange (p .args .s) (p .args .t)) SegmentLength (countTest p)
+    (sym (c .before .in-range .ensures) ∙ not-true (c .before .in-range .result) (c .if2 .taken)))
 
 returns-3 : tie.Need-returns-3
 returns-3 c =
     let u = c .before in
     let p = u .before .before .before .before .before .before .before .before in
     let limit = kindOf (p .args .kind) .unitLimit in
-    sym (to-count (u .before) ∙ refuses (ltb (p .args .w .count) limit) TooManyUnits (roomTest p) (le-ltb (p .args .w .count) limit (omega (arith, u .unit-limit .ensures .is))))
+    sym
+    (to-count (u .before)
+    ∙ refuses (ltb (p .args .w .count) limit) TooManyUnits (roomTest p)
+    (le-ltb (p .args .w .count) limit (omega (arith, u .unit-limit .ensures .is))))
 
 sub-if4 : tie.Need-sub-if4
 sub-if4 c = within c .within

@@ -53,7 +53,10 @@ returns-2 : tie.Need-returns-2
 unfolding closeOutcome
 returns-2 c =
     let p = c .before .before .before .before in
-    sym (writer-first (kindOf (p .args .kind)) (p .args .w) (p .args .room) (roomTest p) ∙ ap (λ (a : Answer). byAnswer a (roomTest p) a) (sym (c .before .before .before .writer-tests .ensures) ∙ c .before .tested .given .1))
+    let tested = sym (c .before .before .before .writer-tests .ensures) ∙ c .before .tested .given .1 in
+    sym
+    (writer-first (kindOf (p .args .kind)) (p .args .w) (p .args .room) (roomTest p)
+    ∙ ap (λ (a : Answer). byAnswer a (roomTest p) a) tested)
 
 returns-3 : tie.Need-returns-3
 returns-3 c =

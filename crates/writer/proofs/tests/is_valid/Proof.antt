@@ -25,7 +25,8 @@ returns c =
     let a = u .before .before .args in
     let w = a .w in
     let limit = kindOf (a .kind) .unitLimit in
-    none (listed (w .suite .cipher) (w .suite .steps)) (leb 16 (w .place)) (leb (w .place) (a .room)) (leb (w .count) limit) (leb (w .total) (1024 * (w .count + 1)))
+    none (listed (w .suite .cipher) (w .suite .steps)) (leb 16 (w .place)) (leb (w .place) (a .room)) (leb (w .count) limit)
+    (leb (w .total) (1024 * (w .count + 1)))
     (lt-leb (w .count) limit (omega (arith, u .unit-limit .ensures .is)))
 
 returns-2 : tie.Need-returns-2
@@ -35,7 +36,8 @@ returns-2 c =
     let w = a .w in
     let limit = kindOf (a .kind) .unitLimit in
     ap (λ l. l && leb 16 (w .place) && leb (w .place) (a .room) && leb (w .total) (1024 * (w .count + 1))) (c .is-listed .ensures)
-    ∙ rest (listed (w .suite .cipher) (w .suite .steps)) (leb 16 (w .place)) (leb (w .place) (a .room)) (leb (w .count) limit) (leb (w .total) (1024 * (w .count + 1)))
+    ∙ rest (listed (w .suite .cipher) (w .suite .steps)) (leb 16 (w .place)) (leb (w .place) (a .room)) (leb (w .count) limit)
+    (leb (w .total) (1024 * (w .count + 1)))
     (le-leb (w .count) limit (omega (arith, u .unit-limit .ensures .is)))
 
 pub is-valid-spec : {M : Type 1} → statement M

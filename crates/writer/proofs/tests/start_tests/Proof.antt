@@ -13,20 +13,26 @@ use Rattle.writer.proofs.tests.start_tests.Statement.{statement}
 use Rattle.writer.proofs.tests.start_tests.Tie as tie
 
 -- what is left after the first test, and after the second
-first : (c : tie.Else1) → let a = c .before .before .args in startOutcome (a .suite) (a .key) (a .room) ≡ unless (eqb (a .key) 16) KeyLength (unless (leb 16 (a .room)) OutputTooShort Done)
+first : (c : tie.Else1) → let a = c .before .before .args in
+    startOutcome (a .suite) (a .key) (a .room) ≡ unless (eqb (a .key) 16) KeyLength (unless (leb 16 (a .room)) OutputTooShort Done)
 unfolding startOutcome
 first c =
     let a = c .before .before .args in
-    passes (listed (a .suite .cipher) (a .suite .steps)) SuiteNotListed _ (sym (c .before .is-listed .ensures) ∙ not-false (c .before .is-listed .result) (c .if1 .left))
+    passes (listed (a .suite .cipher) (a .suite .steps)) SuiteNotListed _
+    (sym (c .before .is-listed .ensures) ∙ not-false (c .before .is-listed .result) (c .if1 .left))
 
 second : (c : tie.Else2) → let a = c .before .before .before .args in startOutcome (a .suite) (a .key) (a .room) ≡ unless (leb 16 (a .room)) OutputTooShort Done
-second c = first (c .before) ∙ passes (eqb (c .before .before .before .args .key) 16) KeyLength _ (eq-eqb (c .before .before .before .args .key) 16 (c .if2 .left))
+second c =
+    let k = c .before .before .before .args .key in
+    first (c .before) ∙ passes (eqb k 16) KeyLength _ (eq-eqb k 16 (c .if2 .left))
 
 returns : tie.Need-returns
 unfolding startOutcome
 returns c =
     let a = c .before .before .args in
-    sym (refuses (listed (a .suite .cipher) (a .suite .steps)) SuiteNotListed _ (sym (c .before .is-listed .ensures) ∙ not-true (c .before .is-listed .result) (c .if1 .taken)))
+    sym
+    (refuses (listed (a .suite .cipher) (a .suite .steps)) SuiteNotListed _
+    (sym (c .before .is-listed .ensures) ∙ not-true (c .before .is-listed .result) (c .if1 .taken)))
 
 returns-2 : tie.Need-returns-2
 returns-2 c =

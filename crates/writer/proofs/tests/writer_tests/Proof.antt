@@ -13,17 +13,21 @@ use Rattle.writer.proofs.tests.writer_tests.Statement.{statement}
 use Rattle.writer.proofs.tests.writer_tests.Tie as tie
 
 -- what the first test leaves
-first : (c : tie.Else1) → let a = c .before .before .args in writerTests (kindOf (a .kind)) (a .w) (a .room) Done ≡ unless (not (a .w .closed)) WriterClosed Done
+first : (c : tie.Else1) → let a = c .before .before .args in
+    writerTests (kindOf (a .kind)) (a .w) (a .room) Done ≡ unless (not (a .w .closed)) WriterClosed Done
 unfolding writerTests
 first c =
     let a = c .before .before .args in
-    passes (valid (kindOf (a .kind)) (a .w) (a .room)) WriterInvalid _ (sym (c .before .is-valid .ensures) ∙ not-false (c .before .is-valid .result) (c .if1 .left))
+    passes (valid (kindOf (a .kind)) (a .w) (a .room)) WriterInvalid _
+    (sym (c .before .is-valid .ensures) ∙ not-false (c .before .is-valid .result) (c .if1 .left))
 
 returns : tie.Need-returns
 unfolding writerTests
 returns c =
     let a = c .before .before .args in
-    sym (refuses (valid (kindOf (a .kind)) (a .w) (a .room)) WriterInvalid _ (sym (c .before .is-valid .ensures) ∙ not-true (c .before .is-valid .result) (c .if1 .taken)))
+    sym
+    (refuses (valid (kindOf (a .kind)) (a .w) (a .room)) WriterInvalid _
+    (sym (c .before .is-valid .ensures) ∙ not-true (c .before .is-valid .result) (c .if1 .taken)))
 
 returns-2 : tie.Need-returns-2
 returns-2 c = sym (first (c .before) ∙ refuses (not (c .before .before .before .args .w .closed)) WriterClosed Done (ap not (c .if2 .taken)))
