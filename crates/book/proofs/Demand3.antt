@@ -86,7 +86,7 @@ module _ (kind : Kind) (formed : WellFormed kind) where
 
   -- every book can be written; a buffer of its length is enough, as the book itself
   is-left : {key x : List ℕ} {n t : ℕ} → Bytes x → IsBook kind key x n t
-      → (h : History kind) × LeavesBook h key x × (after h .writer .count ≡ n) × (after h .writer .total ≡ t)
+      → (h : History kind) × LeavesBook h key x × (after h .writer .count ≡ n) × (after h .writer .total ≡ t) × (h .start .buffer ≡ x)
   is-left {key} {x} bytes i =
       let b = i .bookable in
       let long : length x ≡ bookLength kind (i .units) =
@@ -114,6 +114,7 @@ module _ (kind : Kind) (formed : WellFormed kind) where
         record { under = refl; closed = w .1; string = left-bytes h (i .units) (w .0) (w .1) ∙ i .bytes },
         left-count h (i .units) (w .0) (w .1) ∙ i .count,
         left-total h (i .units) (w .0) (w .1) ∙ i .total,
+        refl,
       )
 
 -- check accepts what a list with an accepted close leaves, with its writer's count and call total
@@ -124,6 +125,15 @@ left-checks k h {key} {x} l =
     let book = is-own k (left-is (kindOf k) (formed k) h l refl refl) in
     ap checkTold (checker-half (kindOf (bookKind x)) (readable (bookKind x)) .accepts key x (after h .writer .count) (after h .writer .total) book)
 
+-- and what check accepts is left by such a list of the book's own kind, in a buffer of its length
+pub checks-left : (key x : List ℕ) → Bytes key → Bytes x → (n t : ℕ) → checkTold (checkAnswer key x) ≡ gives (n ∷ t ∷ [])
+    → (h : History (kindOf (bookKind x))) × LeavesBook h key x × (after h .writer .count ≡ n) × (after h .writer .total ≡ t) × (h .start .buffer ≡ x)
+unfolding checkAnswer
+checks-left key x keyBytes bytes n t e =
+    let k = bookKind x in
+    is-left (kindOf k) (formed k) bytes
+    (checker-half (kindOf k) (readable k) .accepted key x n t keyBytes bytes (told-accepted (checkAnswer key x) n t e))
+
 -- the lists of each kind, and check by the book's own kind
 pub demand3 : Demand3
 unfolding checkAnswer laidOut
@@ -132,11 +142,7 @@ demand3 =
       apart = λ k h. left (kindOf k) (formed k) h .apart;
       total = λ k h. let l = left (kindOf k) (formed k) h in (l .total ∙ l .sum, l .total);
       exact = λ key x keyBytes bytes n t. (
-        λ e.
-            let k = bookKind x in
-            let book = checker-half (kindOf k) (readable k) .accepted key x n t keyBytes bytes (told-accepted (checkAnswer key x) n t e) in
-            let (h, l, count, total) = is-left (kindOf k) (formed k) bytes book in
-            (k, h, l, count, total),
+        λ e. let (h, l, count, total, buffer) = checks-left key x keyBytes bytes n t e in (bookKind x, h, l, count, total),
         λ (k, h, l, count, total). left-checks k h l ∙ (λ j. gives (count j ∷ total j ∷ [])),
       );
       one = λ k h₁ h₂ same e.

@@ -8,8 +8,10 @@ use Rattle.suites.specs.declared.refusal.Answer.{Answer}
 use Rattle.suites.specs.declared.refusal.Answer.the-variants.{Done, Refused}
 use Rattle.suites.specs.Told.{gives, byAnswer}
 use Rattle.fields.specs.Each.{Each, none, more}
-use Rattle.fields.specs.Kind.{writerKind}
-use Rattle.kinds.specs.Kind.{newest}
+use Rattle.fields.specs.Kind.{Kind, writerKind}
+use Rattle.bits.specs.Bytes.{Bytes}
+use Rattle.checker.specs.Check.{checkAnswer, checkTold}
+use Rattle.kinds.specs.Kind.{kindOf, bookKind, newest}
 use Rattle.kinds.proofs.Formed.{formed}
 use Rattle.writer.specs.Writer.{startWriter, startBuffer}
 use Rattle.writer.specs.History.{Call, Callable, State, outcome, afterCall, afterCalls, Start, started, hasClose, sealings, units}
@@ -20,10 +22,10 @@ use Rattle.writer.proofs.Passed.{valid-told}
 use Rattle.writer_bytes.specs.WriterBytes.{writerOf, writerBytes}
 use Rattle.writer_bytes.proofs.RoundTrip.{writerOf-writerBytes}
 use Rattle.returned.specs.Returned.{returned}
-use Rattle.book.specs.Demand3.{History, after, leaves}
-use Rattle.book.proofs.Demand3.{demand3, left-checks}
+use Rattle.book.specs.Demand3.{History, after, leaves, LeavesBook}
+use Rattle.book.proofs.Demand3.{demand3, left-checks, checks-left}
 use Rattle.c_writer.specs.Written.{Kept, kept, stateOf, bytesAfter, Calls, Starts}
-use Rattle.c_book.specs.ForC.{Run, none as noneRun, more as moreRun, InC, numbersOf, left, ForC}
+use Rattle.c_book.specs.ForC.{Run, none as noneRun, more as moreRun, InC, numbersOf, holds, left, LeavesForC, ForC}
 
 -- what any list leaves
 left-by : (s : Start) (cs : List Call) → Each (Callable writerKind) cs
@@ -121,6 +123,31 @@ made h fits =
       run = run;
     }
 
+-- check accepts what such a list leaves
+left-accepted : (h : History writerKind) (l : InC h) {key x : List ℕ} → LeavesForC l key x
+    → checkTold (checkAnswer key x) ≡ gives (holds l .count ∷ holds l .total ∷ [])
+left-accepted h l leaves =
+    left-checks newest h (record { under = leaves .under; closed = leaves .closed; string = sym (left-same h l) ∙ leaves .string })
+    ∙ ap (λ (e : State). gives (e .writer .count ∷ e .writer .total ∷ [])) (sym (list-same h l .0))
+
+-- and what it accepts, of the writer's kind, is left by one
+accepted-left : (key x : List ℕ) → Bytes key → Bytes x → length x < 2 ^ 64 → kindOf (bookKind x) ≡ writerKind → (n t : ℕ)
+    → checkTold (checkAnswer key x) ≡ gives (n ∷ t ∷ [])
+    → (h : History writerKind) × (l : InC h) × LeavesForC l key x × (holds l .count ≡ n) × (holds l .total ≡ t)
+accepted-left key x keyBytes bytes long own n t e =
+    let (h, leaves, count, total, buffer) =
+    subst
+    (λ (kind : Kind). (h : History kind) × LeavesBook h key x × (after h .writer .count ≡ n) × (after h .writer .total ≡ t) × (h .start .buffer ≡ x))
+    own (checks-left key x keyBytes bytes n t e) in
+    let l = made h (rw buffer long) in
+    let same = list-same h l .0 in (
+      h,
+      l,
+      record { under = leaves .under; closed = leaves .closed; string = left-same h l ∙ leaves .string },
+      ap (λ (s : State). s .writer .count) same ∙ count,
+      ap (λ (s : State). s .writer .total) same ∙ total,
+    )
+
 pub for-c : ForC
 for-c =
     record {
@@ -129,8 +156,9 @@ for-c =
       returns = λ h l. list-same h l .1;
       apart = λ h l. demand3 .apart newest h;
       total = λ h l. ap (λ (e : State). e .writer .total) (list-same h l .0) ∙ demand3 .total newest h .1;
-      checks = λ h l closed.
-          left-checks newest h (record { under = refl; closed = closed; string = sym (left-same h l) })
-          ∙ ap (λ (e : State). gives (e .writer .count ∷ e .writer .total ∷ [])) (sym (list-same h l .0));
+      exact = λ key x keyBytes bytes long own n t. (
+        accepted-left key x keyBytes bytes long own n t,
+        λ (h, l, leaves, count, total). left-accepted h l leaves ∙ (λ i. gives (count i ∷ total i ∷ [])),
+      );
       one = λ h₁ h₂ l₁ l₂ key e. demand3 .one newest h₁ h₂ key (sym (left-same h₁ l₁) ∙ e ∙ left-same h₂ l₂);
     }

@@ -2,11 +2,14 @@
 -- writer that the bytes hold and the buffer are those of a list of calls of demand 3, so that all of demand 3 holds of what C has.
 use mathlib.Core.Path.{_≡_}
 use mathlib.Core.Bool.{true}
+use mathlib.Core.Logic.{_↔_}
 use mathlib.Core.List.{List, [], _∷_, map, List·Nodup}
 use Prim.Native.Nat.{ℕ, _^_, _<_}
 use lib.ListN.{length, take}
+use Rattle.bits.specs.Bytes.{Bytes}
 use Rattle.suites.specs.Told.{gives, told}
 use Rattle.fields.specs.Kind.{Kind, writerKind}
+use Rattle.kinds.specs.Kind.{kindOf, bookKind}
 use Rattle.format.specs.Sealings.{cipherCalls}
 use Rattle.writer.specs.declared.Writer.{Writer}
 use Rattle.writer.specs.History.{Call, State, outcome, afterCall, started, hasClose, sealings}
@@ -45,6 +48,12 @@ module _ {h : History writerKind} (l : InC h) where
   abbrev pub left : List ℕ
   left = take (holds .place) (l .end .buffer)
 
+-- "some such list under that key, with an accepted close, leaves that string"
+pub record LeavesForC {h : History writerKind} (l : InC h) (key x : List ℕ) : Type 0 where
+  pub under : h .start .key ≡ key
+  pub closed : hasClose writerKind (h .calls) (started (h .start)) ≡ true
+  pub string : left l ≡ x
+
 pub record ForC : Type 0 where
   -- every list of calls of demand 3 on a buffer that can be lent can be made by C
   pub every : (h : History writerKind) → length (h .start .buffer) < 2 ^ 64 → InC h
@@ -56,9 +65,11 @@ pub record ForC : Type 0 where
       → List·Nodup (map (λ c. c .tweak) (cipherCalls (sealings writerKind (h .calls) (started (h .start)))))
   -- (2) what sb_calls tells is the length of their call lists
   pub total : (h : History writerKind) (l : InC h) → holds l .total ≡ length (cipherCalls (sealings writerKind (h .calls) (started (h .start))))
-  -- (3) with an accepted close checking accepts what is left, and returns what sb_units and sb_calls tell
-  pub checks : (h : History writerKind) (l : InC h) → hasClose writerKind (h .calls) (started (h .start)) ≡ true
-      → checkTold (checkAnswer (h .start .key) (left l)) ≡ gives (holds l .count ∷ holds l .total ∷ [])
+  -- (3) checking accepts a string of the writer's kind exactly when such a list under that key, with an accepted close, leaves it, and returns
+  -- what sb_units and sb_calls then tell
+  pub exact : (key x : List ℕ) → Bytes key → Bytes x → length x < 2 ^ 64 → kindOf (bookKind x) ≡ writerKind → (n t : ℕ)
+      → (checkTold (checkAnswer key x) ≡ gives (n ∷ t ∷ []))
+      ↔ ((h : History writerKind) × (l : InC h) × LeavesForC l key x × (holds l .count ≡ n) × (holds l .total ≡ t))
   -- (4) two lists under one key that leave the same string have the same units
   pub one : (h₁ h₂ : History writerKind) (l₁ : InC h₁) (l₂ : InC h₂) → h₁ .start .key ≡ h₂ .start .key → left l₁ ≡ left l₂
       → unitsAdded h₁ ≡ unitsAdded h₂
