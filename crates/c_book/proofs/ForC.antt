@@ -24,7 +24,7 @@ use Rattle.writer_bytes.proofs.RoundTrip.{writerOf-writerBytes}
 use Rattle.returned.specs.Returned.{returned}
 use Rattle.book.specs.Demand3.{History, after, leaves, LeavesBook}
 use Rattle.book.proofs.Demand3.{demand3, left-checks, checks-left}
-use Rattle.c_writer.specs.Written.{Kept, kept, stateOf, bytesAfter, Calls, Starts}
+use Rattle.c_writer.specs.Written.{Kept, kept, stateOf, bytesAfter, CallsForC, StartsForC}
 use Rattle.c_book.specs.ForC.{Run, none as noneRun, more as moreRun, InC, numbersOf, holds, left, LeavesForC, ForC}
 
 -- what any list leaves
@@ -56,7 +56,7 @@ module _ (s : Start) (fits : length (s .buffer) < 2 ^ 64) where
 
   -- where the bytes hold a list's writer, a call leaves bytes that hold the writer of the list with this call
   module _ (cs : List Call) (c : Call) (each : Each (Callable writerKind) (cs ++ c ∷ [])) {k l : Kept} {r : ℕ}
-      (here : stateOf k ≡ afterCalls writerKind cs (started s)) (h : Calls c k r l) where
+      (here : stateOf k ≡ afterCalls writerKind cs (started s)) (h : CallsForC c k r l) where
     there : afterCall writerKind c (stateOf k) ≡ afterCalls writerKind (cs ++ c ∷ []) (started s)
     there = ap (afterCall writerKind c) here ∙ sym (calls-snoc cs c (started s))
 
@@ -90,7 +90,7 @@ module _ (s : Start) (fits : length (s .buffer) < 2 ^ 64) where
             ∷ (rest .1 ∙ ap (numbersOf writerKind ds) (calls-snoc cs d (started s))) i,
       )
 
-  begun-same : {k : Kept} → Starts (s .suite) (s .key) (s .number) (s .buffer) 0 k → stateOf k ≡ started s
+  begun-same : {k : Kept} → StartsForC (s .suite) (s .key) (s .number) (s .buffer) 0 k → stateOf k ≡ started s
   unfolding afterCalls
   begun-same h = λ i. record { writer = (ap writerOf (h .writer) ∙ held [] none) i; buffer = h .buffer i }
 

@@ -16,20 +16,20 @@ use Rattle.writer.specs.History.{Call, State, outcome, afterCall, started, hasC
 use Rattle.writer_bytes.specs.WriterBytes.{writerOf}
 use Rattle.checker.specs.Check.{checkAnswer, checkTold}
 use Rattle.book.specs.Demand3.{History, after, unitsAdded}
-use Rattle.c_writer.specs.Written.{Kept, stateOf, Calls, Starts}
+use Rattle.c_writer.specs.Written.{Kept, stateOf, CallsForC, StartsForC}
 
 -- calls of sb_add and sb_close one after the other, each as its contract says: what is kept before them, the numbers that they return, and
 -- what is kept after them
 pub data Run : List Call → Kept → List ℕ → Kept → Type 0 where
   none : {k : Kept} → Run [] k [] k
-  more : {c : Call} {cs : List Call} {k l m : Kept} {r : ℕ} {rs : List ℕ} → Calls c k r l → Run cs l rs m → Run (c ∷ cs) k (r ∷ rs) m
+  more : {c : Call} {cs : List Call} {k l m : Kept} {r : ℕ} {rs : List ℕ} → CallsForC c k r l → Run cs l rs m → Run (c ∷ cs) k (r ∷ rs) m
 
 -- an sb_start that returned 0, and such calls behind it
 pub record InC (h : History writerKind) : Type 0 where
   -- a buffer that can be lent
   pub fits : length (h .start .buffer) < 2 ^ 64
   pub begun : Kept
-  pub starts : Starts (h .start .suite) (h .start .key) (h .start .number) (h .start .buffer) 0 begun
+  pub starts : StartsForC (h .start .suite) (h .start .key) (h .start .number) (h .start .buffer) 0 begun
   pub numbers : List ℕ
   pub end : Kept
   pub run : Run (h .calls) begun numbers end

@@ -12,7 +12,7 @@ use Rattle.writer.specs.declared.Writer.{Writer}
 use Rattle.writer.specs.History.{Call, State, state, afterCall, Answers}
 use Rattle.writer_bytes.specs.WriterBytes.{writerOf, writerBytes}
 use Rattle.returned.specs.Returned.{returned}
-use Rattle.c_writer.specs.Written.{Kept, kept, stateOf, Calls}
+use Rattle.c_writer.specs.Written.{Kept, kept, stateOf, CallsForC}
 
 module _ (c : Call) (k : Kept) {w : Writer} (held : w ≡ writerOf (k .writer)) {a : Answer} {after : State} where
   -- the call was made on that writer
@@ -20,7 +20,7 @@ module _ (c : Call) (k : Kept) {w : Writer} (held : w ≡ writerOf (k .writer)) 
   answered h = rw held at h
 
   pub refused-calls : Answers writerKind c (state w (k .buffer)) a after → (why : Refusal) → a ≡ Refused why → (r : ℕ) → r ≡ number why
-      → Calls c k r (kept (k .writer) (after .buffer))
+      → CallsForC c k r (kept (k .writer) (after .buffer))
   refused-calls h why e r is =
       let g = answered h in
       let told = sym e ∙ g .answer in
@@ -31,7 +31,7 @@ module _ (c : Call) (k : Kept) {w : Writer} (held : w ≡ writerOf (k .writer)) 
       }
 
   pub done-calls : Answers writerKind c (state w (k .buffer)) a after → a ≡ Done → (b : List ℕ) → b ≡ writerBytes (after .writer)
-      → Calls c k 0 (kept b (after .buffer))
+      → CallsForC c k 0 (kept b (after .buffer))
   done-calls h e b is =
       let g = answered h in
       let told = sym e ∙ g .answer in

@@ -27,13 +27,13 @@ abbrev pub bytesAfter : Call → Kept → List ℕ
 bytesAfter c k = byAnswer (outcome writerKind c (stateOf k)) (writerBytes (afterCall writerKind c (stateOf k) .writer)) (k .writer)
 
 -- the contracts of `sb_add` and `sb_close`: a call returns r, and leaves what is kept after it
-pub record Calls (c : Call) (before : Kept) (r : ℕ) (after : Kept) : Type 0 where
+pub record CallsForC (c : Call) (before : Kept) (r : ℕ) (after : Kept) : Type 0 where
   pub returns : r ≡ returned (outcome writerKind c (stateOf before))
   pub writer : after .writer ≡ bytesAfter c before
   pub buffer : after .buffer ≡ afterCall writerKind c (stateOf before) .buffer
 
 -- the contract of `sb_start`
-pub record Starts (suite : Suite) (key : List ℕ) (number : ℕ) (buf : List ℕ) (r : ℕ) (after : Kept) : Type 0 where
+pub record StartsForC (suite : Suite) (key : List ℕ) (number : ℕ) (buf : List ℕ) (r : ℕ) (after : Kept) : Type 0 where
   pub returns : r ≡ returned (startOutcome suite (length key) (length buf))
   pub writer : after .writer ≡ writerBytes (startWriter suite key number buf)
   pub buffer : after .buffer ≡ startBuffer suite key number buf

@@ -8,7 +8,7 @@ ghost use Rattle.fields.specs.Unit.{unitOf};
 ghost use Rattle.writer.specs.History.{add, close};
 ghost use Rattle.writer_bytes.specs.WriterBytes.{writerOf};
 ghost use Rattle.returned.specs.Returned.{suiteOf};
-ghost use Rattle.c_writer.specs.Written.{kept, Calls, Starts};
+ghost use Rattle.c_writer.specs.Written.{kept, CallsForC, StartsForC};
 
 #[no_mangle]
 pub extern "C" fn sb_start(
@@ -19,7 +19,7 @@ pub extern "C" fn sb_start(
     buf: &mut [u8],
     writer: &mut [u8; 64],
 ) -> u32
-    ensures { λ r. ⌜ Starts (suiteOf cipher steps) (now (key .entry)) number (now (buf .entry))
+    ensures { λ r. ⌜ StartsForC (suiteOf cipher steps) (now (key .entry)) number (now (buf .entry))
         r (kept (now (writer .exit)) (now (buf .exit))) ⌝ }
 {
     let done = Writer::start(Suite { cipher, steps }, key, number, buf);
@@ -39,7 +39,7 @@ pub extern "C" fn sb_add(
     source: &[u8],
     target: &[u8],
 ) -> u32
-    ensures { λ r. ⌜ Calls (add (unitOf (now (from .entry)) (now (to .entry)) (now (source .entry)) (now (target .entry))))
+    ensures { λ r. ⌜ CallsForC (add (unitOf (now (from .entry)) (now (to .entry)) (now (source .entry)) (now (target .entry))))
         (kept (now (writer .entry)) (now (buf .entry))) r (kept (now (writer .exit)) (now (buf .exit))) ⌝ }
 {
     let w = writer_bytes::from_bytes(*writer);
@@ -58,7 +58,7 @@ pub extern "C" fn sb_add(
 
 #[no_mangle]
 pub extern "C" fn sb_close(writer: &mut [u8; 64], buf: &mut [u8]) -> u32
-    ensures { λ r. ⌜ Calls close
+    ensures { λ r. ⌜ CallsForC close
         (kept (now (writer .entry)) (now (buf .entry))) r (kept (now (writer .exit)) (now (buf .exit))) ⌝ }
 {
     let w = writer_bytes::from_bytes(*writer);

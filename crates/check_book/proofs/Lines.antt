@@ -8,7 +8,7 @@ use borrow.Author.Tests.{le-leb, ne-eqb}
 use lib.Dec.{leb}
 use lib.ListN.{length, take, drop, length-append}
 use lib.Seq.{take-all, take-at, drop-at, drop-drop}
-use Rattle.decimal.specs.Decimal.{digitsIn, digits, Written}
+use Rattle.decimal.specs.Decimal.{digitsIn, digits, AtStart}
 use Rattle.decimal.proofs.Digits.{digits-u64}
 use Rattle.suites.specs.Refusal.{number}
 use Rattle.suites.specs.declared.refusal.Refusal.the-variants.{TagDiffers}
@@ -33,13 +33,13 @@ at-place at s d y r put place =
     }
 
 -- what is put first
-pub first : {s d e : List ℕ} {r : ℕ} → Behind 0 s d e r → Written s d e r
+pub first : {s d e : List ℕ} {r : ℕ} → Behind 0 s d e r → AtStart s d e r
 first {s} {d} b =
     let none : 0 + length s ≡ length s = omega arith in
     record { count = b .place ∙ none; bytes = b .bytes ∙ ap (λ (n : ℕ). s ++ drop n d) none }
 
 -- and behind it
-pub then : {p s d x e : List ℕ} {at r : ℕ} → Written p d x at → Behind at s x e r → Written (p ++ s) d e r
+pub then : {p s d x e : List ℕ} {at r : ℕ} → AtStart p d x at → Behind at s x e r → AtStart (p ++ s) d e r
 then {p} {s} {d} {x} {e} {at} w b =
     let long : length (p ++ s) ≡ length p + length s = length-append p s in
     let front : take at x ≡ p = ap (take at) (w .bytes) ∙ take-at p (drop (length p) d) at (sym (w .count)) in
@@ -54,7 +54,7 @@ then {p} {s} {d} {x} {e} {at} w b =
     }
 
 -- what was written is a part of the output
-pub within : {s d e : List ℕ} {r : ℕ} → Written s d e r → r ≤ length e
+pub within : {s d e : List ℕ} {r : ℕ} → AtStart s d e r → r ≤ length e
 within {s} {d} w = omega (arith, w .count, ap length (w .bytes) ∙ length-append s (drop (length s) d))
 
 -- the lines that the scope states

@@ -6,7 +6,7 @@ use suites::refusal::Refusal;
 ghost use mathlib.Core.Path.{_≡_};
 ghost use Prim.Native.Nat.{_+_, _≤_};
 ghost use lib.ListN.{length, take, drop};
-ghost use Rattle.decimal.specs.Decimal.{digits, Written};
+ghost use Rattle.decimal.specs.Decimal.{digits, AtStart};
 ghost use Rattle.checker.specs.Check.{checkAnswer};
 ghost use Rattle.checker.specs.declared.check.CheckAnswer.the-variants.{Accepted, Refused};
 ghost use Rattle.check_book.specs.Line.{answerLine, line};
@@ -33,7 +33,7 @@ fn put_number(n: u64, out: &mut [u8], at: usize) -> usize
 // The line of a book that is accepted, at the start of an output that has room for it: its length.
 fn accepted(units: u64, calls: u64, out: &mut [u8]) -> usize
     requires { ⌜ 64 ≤ length (now out) ⌝ }
-    ensures { λ r. ⌜ Written (answerLine (Accepted units calls)) (now (out .entry)) (now (out .exit)) r ⌝ }
+    ensures { λ r. ⌜ AtStart (answerLine (Accepted units calls)) (now (out .entry)) (now (out .exit)) r ⌝ }
 {
     let a = put_text(b"ok units=", out, 0);
     let b = put_number(units, out, a);
@@ -45,7 +45,7 @@ fn accepted(units: u64, calls: u64, out: &mut [u8]) -> usize
 // The line of a refusal.
 fn refused(why: Refusal, out: &mut [u8]) -> usize
     requires { ⌜ 64 ≤ length (now out) ⌝ }
-    ensures { λ r. ⌜ Written (answerLine (Refused why)) (now (out .entry)) (now (out .exit)) r ⌝ }
+    ensures { λ r. ⌜ AtStart (answerLine (Refused why)) (now (out .entry)) (now (out .exit)) r ⌝ }
 {
     let a = put_text(b"refused ", out, 0);
     let b = put_number(why.number() as u64, out, a);
@@ -55,7 +55,7 @@ fn refused(why: Refusal, out: &mut [u8]) -> usize
 // The line of either answer.
 fn answer_line(answer: CheckAnswer, out: &mut [u8]) -> usize
     requires { ⌜ 64 ≤ length (now out) ⌝ }
-    ensures { λ r. ⌜ Written (answerLine answer) (now (out .entry)) (now (out .exit)) r ⌝ }
+    ensures { λ r. ⌜ AtStart (answerLine answer) (now (out .entry)) (now (out .exit)) r ⌝ }
 {
     match answer {
         CheckAnswer::Refused(why) => refused(why, out),
@@ -75,7 +75,7 @@ fn checked(input: &[u8]) -> CheckAnswer
 
 // The line for the bytes that were read, at the start of an output: its length.
 fn line(input: &[u8], out: &mut [u8; 64]) -> usize
-    ensures { λ r. ⌜ Written (line (now (input .entry))) (now (out .entry)) (now (out .exit)) r ⌝ }
+    ensures { λ r. ⌜ AtStart (line (now (input .entry))) (now (out .entry)) (now (out .exit)) r ⌝ }
 {
     let n = input.len();
     if 65520 < n {

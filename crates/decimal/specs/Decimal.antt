@@ -34,6 +34,6 @@ unfoldable pub digitsWithin : ℕ → ℕ → List ℕ
 digitsWithin room n = cond (leb (length (digits n)) room) (digits n) []
 
 -- s was written at the start of d, which gave e: the other bytes stay, and r is the length of s
-pub record Written (s d e : List ℕ) (r : ℕ) : Type 0 where
+pub record AtStart (s d e : List ℕ) (r : ℕ) : Type 0 where
   pub count : r ≡ length s
   pub bytes : e ≡ s ++ drop (length s) d

@@ -2,7 +2,7 @@
 ghost use mathlib.Core.Path.{_≡_};
 ghost use Prim.Native.Nat.{_≤_};
 ghost use lib.ListN.{length};
-ghost use Rattle.decimal.specs.Decimal.{lastDigit, digits, digitsWithin, Written};
+ghost use Rattle.decimal.specs.Decimal.{lastDigit, digits, digitsWithin, AtStart};
 
 fn last_digit(n: u64) -> u8
     ensures { λ r. ⌜ r ≡ lastDigit n ⌝ }
@@ -26,7 +26,7 @@ pub fn count(n: u64) -> usize
 // The digits of a number at the start of an output that has room for them, the last one behind the others. How many there are.
 fn put_all(n: u64, out: &mut [u8]) -> usize
     requires { ⌜ length (digits n) ≤ length (now out) ⌝ }
-    ensures { λ r. ⌜ Written (digits n) (now (out .entry)) (now (out .exit)) r ⌝ }
+    ensures { λ r. ⌜ AtStart (digits n) (now (out .entry)) (now (out .exit)) r ⌝ }
 {
     if n < 10 {
         out[0] = last_digit(n);
@@ -39,7 +39,7 @@ fn put_all(n: u64, out: &mut [u8]) -> usize
 
 // The digits of a number at the start of an output, or nothing where they have no room. How many bytes were written.
 pub fn put(n: u64, out: &mut [u8]) -> usize
-    ensures { λ r. ⌜ Written (digitsWithin (length (now (out .entry))) n) (now (out .entry)) (now (out .exit)) r ⌝ }
+    ensures { λ r. ⌜ AtStart (digitsWithin (length (now (out .entry))) n) (now (out .entry)) (now (out .exit)) r ⌝ }
 {
     if out.len() < count(n) {
         return 0;

@@ -6,12 +6,12 @@ use Rattle.bits.specs.Bit.{gather}
 use Rattle.bits.specs.Table.{tab}
 
 -- column i: entry i of each row, row 0 first
-unfoldable pub column : List (List ℕ) → ℕ → List ℕ
-column m i = map (λ r. getD r i 0) m
+unfoldable pub matrixColumn : List (List ℕ) → ℕ → List ℕ
+matrixColumn m i = map (λ r. getD r i 0) m
 
 -- row i of the transpose is column i
 unfoldable pub transpose : List (List ℕ) → List (List ℕ)
-transpose m = tab 16 (column m)
+transpose m = tab 16 (matrixColumn m)
 
 -- a column as a word: bit j is its entry in row j
 unfoldable pub word : List ℕ → ℕ

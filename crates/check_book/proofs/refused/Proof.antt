@@ -3,7 +3,7 @@ use mathlib.Core.Path.{subst}
 use mathlib.Core.List.{_++_}
 use Prim.Native.Nat.{ℕ}
 use borrow.Author.Needs.{needs}
-use Rattle.decimal.specs.Decimal.{digits, Written}
+use Rattle.decimal.specs.Decimal.{digits, AtStart}
 use Rattle.check_book.specs.Line.{ascii}
 use Rattle.check_book.proofs.Lines.{first, then}
 use Rattle.check_book.proofs.refused.Statement.{statement}
@@ -17,7 +17,7 @@ returns c =
     let a = k .before .before .before in
     let h = a .before .before .before .before .args in
     subst
-    (λ (n : ℕ). Written (ascii "refused " ++ digits n ++ ascii "\n") (h .out .now) (e .put-text2 .last .1 .0) (e .put-text2 .result))
+    (λ (n : ℕ). AtStart (ascii "refused " ++ digits n ++ ascii "\n") (h .out .now) (e .put-text2 .last .1 .0) (e .put-text2 .result))
     (k .number .ensures)
     (then (then (first (a .put-text .ensures)) (b .put-number .ensures .0)) (e .put-text2 .ensures))
 

@@ -6,9 +6,9 @@ use borrow.Author.Needs.{needs}
 use borrow.Fn.Kinds.{In}
 use borrow.Fn.PlainCycle.{Measures, is, falls, and}
 use lib.ListN.{length, length-set}
-use Rattle.decimal.specs.Decimal.{digits, Written}
+use Rattle.decimal.specs.Decimal.{digits, AtStart}
 use Rattle.decimal.proofs.Digits.{length-more, digits-some, digits-u64}
-use Rattle.decimal.proofs.Written.{written-long, digit-alone, digit-behind}
+use Rattle.decimal.proofs.AtStart.{written-long, digit-alone, digit-behind}
 use Rattle.decimal.proofs.put_all.Reads as own
 use Rattle.decimal.proofs.put_all.Kinds as kinds
 use Rattle.decimal.proofs.+put_all.Lts-put_all as lts
@@ -50,7 +50,7 @@ module _ (t : ℕ) (c : lts.After-last-digit2 (digit.Asked, digit.Learnt, below 
   room = omega (arith, start .pre .1, length-more (start .args .n) many)
 
   before : let e = c .before .before .before .put-all in
-      Written (digits (start .args .n / 10)) (start .args .out .now) (e .last .1 .0) (e .result)
+      AtStart (digits (start .args .n / 10)) (start .args .out .now) (e .last .1 .0) (e .result)
   before = c .before .before .before .put-all .ensures
 
 write-2 : (t : ℕ) → lts.Need-slice-write-out-2 (digit.Asked, digit.Learnt, below t, own.Post) (at t) own.Post

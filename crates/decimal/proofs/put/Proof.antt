@@ -5,7 +5,7 @@ use borrow.Author.Tests.{lt-leb}
 use lib.ListN.{length}
 use Rattle.decimal.specs.Decimal.{digits, digitsWithin}
 use Rattle.decimal.proofs.Digits.{digitsWithin-all}
-use Rattle.decimal.proofs.Written.{written-none}
+use Rattle.decimal.proofs.AtStart.{written-none}
 use Rattle.decimal.proofs.put.Statement.{statement}
 use Rattle.decimal.proofs.put.Tie as tie
 
