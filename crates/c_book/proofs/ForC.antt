@@ -155,7 +155,9 @@ for-c =
       same = λ h l. list-same h l .0;
       returns = λ h l. list-same h l .1;
       apart = λ h l. demand3 .apart newest h;
-      total = λ h l. ap (λ (e : State). e .writer .total) (list-same h l .0) ∙ demand3 .total newest h .1;
+      total = λ h l.
+          let same = ap (λ (e : State). e .writer .total) (list-same h l .0) in
+          (same ∙ demand3 .total newest h .0, same ∙ demand3 .total newest h .1);
       exact = λ key x keyBytes bytes long own n t. (
         accepted-left key x keyBytes bytes long own n t,
         λ (h, l, leaves, count, total). left-accepted h l leaves ∙ (λ i. gives (count i ∷ total i ∷ [])),

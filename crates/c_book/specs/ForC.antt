@@ -10,7 +10,7 @@ use Rattle.bits.specs.Bytes.{Bytes}
 use Rattle.suites.specs.Told.{gives, told}
 use Rattle.fields.specs.Kind.{Kind, writerKind}
 use Rattle.kinds.specs.Kind.{kindOf, bookKind}
-use Rattle.format.specs.Sealings.{cipherCalls}
+use Rattle.format.specs.Sealings.{cipherCalls, callTotal}
 use Rattle.writer.specs.declared.Writer.{Writer}
 use Rattle.writer.specs.History.{Call, State, outcome, afterCall, started, hasClose, sealings}
 use Rattle.writer_bytes.specs.WriterBytes.{writerOf}
@@ -63,8 +63,10 @@ pub record ForC : Type 0 where
   -- so that demand 3 holds of it: (1) no two cipher calls use the same tweak
   pub apart : (h : History writerKind) → InC h
       → List·Nodup (map (λ c. c .tweak) (cipherCalls (sealings writerKind (h .calls) (started (h .start)))))
-  -- (2) what sb_calls tells is the length of their call lists
-  pub total : (h : History writerKind) (l : InC h) → holds l .total ≡ length (cipherCalls (sealings writerKind (h .calls) (started (h .start))))
+  -- (2) what sb_calls tells is the sum of ⌈a/16⌉ + ⌈m/16⌉ + 1 over their sealings, and the length of their call lists
+  pub total : (h : History writerKind) (l : InC h)
+      → (holds l .total ≡ callTotal (sealings writerKind (h .calls) (started (h .start))))
+      × (holds l .total ≡ length (cipherCalls (sealings writerKind (h .calls) (started (h .start)))))
   -- (3) checking accepts a string of the writer's kind exactly when such a list under that key, with an accepted close, leaves it, and returns
   -- what sb_units and sb_calls then tell
   pub exact : (key x : List ℕ) → Bytes key → Bytes x → length x < 2 ^ 64 → kindOf (bookKind x) ≡ writerKind → (n t : ℕ)

@@ -28,7 +28,7 @@ pub record SealedAt (key x : List ℕ) (n at : ℕ) (u : BookUnit) : Type 0 wher
   pub keyLong : length key ≡ 16
   pub listedSuite : listed (openingSuite x .cipher) (openingSuite x .steps) ≡ true
   pub opening : openingBytes x ≡ openingFields (openingSuite x) (openingNumber x)
-  -- a unit that a book of this kind may have at this number
+  -- a number that is read, and a unit that a book of this kind may have
   pub few : n < mostUnits
   pub allowed : Allowed (kindOf (bookKind x)) n u
   pub stands : take (length (sealedUnit key x n u)) (drop at x) ≡ sealedUnit key x n u

@@ -19,15 +19,31 @@ use Rattle.calls.proofs.Exact.{open-exact, open-sealed}
 use Rattle.suites.specs.declared.refusal.Answer.the-variants.{Done, Refused}
 use Rattle.suites.specs.declared.refusal.Answer.{Answer}
 use Rattle.suites.specs.declared.suite.Suite.{Suite}
-use Rattle.suites.specs.Told.{Told, gives, told}
-use Rattle.suites.proofs.Numbers.{number-within, told-done}
-use Rattle.limits.specs.Tests.{openTests}
+use Rattle.suites.specs.Told.{Told, gives, refuses, told}
+use Rattle.suites.proofs.Numbers.{told-done}
+use Rattle.limits.specs.Tests.{sealTests, openTests}
+use Rattle.limits.proofs.Told.{seal-told, open-told}
 use Rattle.limits.proofs.Passed.{Openable as Passing, seal-passed, open-passed, open-passes}
 use Rattle.bits.specs.Bytes.{sameBytes}
 use Rattle.text_blocks.specs.Under.{enciphers, deciphers}
 use Rattle.text_blocks.proofs.Chunks.{enciphers-blockwise, deciphers-blockwise}
-use Rattle.opening.specs.Demand2.{Context, image, sealTells, sealLeaves, Sealable, Openable, Accepts, Differs, Demand2}
-use Rattle.opening.specs.Open.{ciphertext, opened, agrees, thenTag, openReport, openAnswer, openBuffer, openTold}
+use Rattle.opening.specs.Demand2.{
+  Context,
+  image,
+  sealTells,
+  sealLeaves,
+  openTells,
+  openLeaves,
+  sealCause,
+  openCause,
+  Sealable,
+  Openable,
+  Does,
+  Accepts,
+  Differs,
+  Demand2,
+}
+use Rattle.opening.specs.Open.{ciphertext, opened, agrees, thenTag, openReport, openOutcome, openAnswer, openBuffer, openTold}
 use Rattle.sealing.specs.Seal.{sealed, sealOutcome, sealReport, sealAnswer, sealBuffer, sealTold, written}
 use Rattle.sealing.proofs.One.{inverse, sealed-one}
 use Rattle.opening.proofs.Answers.{open-done}
@@ -52,10 +68,16 @@ same-refl : (n : ℕ) (x : List ℕ) → sameBytes n x x ≡ true
 same-refl zero x = refl
 same-refl (suc n) x = λ i. same-refl n x i && eq-eqb (getD x n 0) (getD x n 0) refl i
 
--- sealing that tells the number 0 was done
-seal-done : (a : Answer) (len count : ℕ) → sealTold (sealReport a len count) .number ≡ 0 → a ≡ Done
-seal-done Done len count e = refl
-seal-done (Refused why) len count e = absurd (omega (arith, number-within why .0))
+-- what tests that refuse with n tell of sealing and of opening, and what is left of the output
+module _ (n : ℕ) (some : 0 < n) (result out : List ℕ) where
+  seal-refused : (a : Answer) (len count : ℕ) → told a ≡ refuses n → Does (sealTold (sealReport a len count)) (written a result out) (refuses n) out
+  seal-refused Done len count e = let z : 0 ≡ n = ap (λ (r : Told). r .number) e in absurd (omega arith)
+  seal-refused (Refused why) len count e = record { answer = e; output = refl }
+
+  open-refused : (a : Answer) (ok : Bool) (len : ℕ) → told a ≡ refuses n
+      → Does (openTold (openReport (thenTag a ok) len)) (written (thenTag a ok) result out) (refuses n) out
+  open-refused Done ok len e = let z : 0 ≡ n = ap (λ (r : Told). r .number) e in absurd (omega arith)
+  open-refused (Refused why) ok len e = record { answer = e; output = refl }
 
 module _ (u : Context) (key-bytes : Bytes (u .key)) (nonce-bytes : Bytes (u .nonce)) where
   S : Suite
@@ -107,7 +129,11 @@ module _ (u : Context) (key-bytes : Bytes (u .key)) (nonce-bytes : Bytes (u .non
 
   module _ (s out : List ℕ) (openable : Openable u s out) where
     op : openTests (u .cipher) (u .steps) (length (u .key)) (length (u .nonce)) (length (u .header)) (length s) (length out) ≡ Done
-    op = told-done (openTests (u .cipher) (u .steps) (length (u .key)) (length (u .nonce)) (length (u .header)) (length s) (length out)) openable
+    op =
+        told-done (openTests (u .cipher) (u .steps) (length (u .key)) (length (u .nonce)) (length (u .header)) (length s) (length out))
+        (ap (λ (r : Told). r .number)
+        (open-told (u .cipher) (u .steps) (length (u .key)) (length (u .nonce)) (length (u .header)) (length s) (length out))
+        ∙ openable)
 
     A : Bool
     A = agrees (u .cipher) (u .steps) (u .key) (u .nonce) (u .header) s
@@ -132,22 +158,23 @@ module _ (u : Context) (key-bytes : Bytes (u .key)) (nonce-bytes : Bytes (u .non
     buffer v e = ap (λ (b : Bool). written (thenTag Done b) text out) (sym e) ∙ open-done S (u .key) (u .nonce) (u .header) s out op .1
 
     accepted : (t : List ℕ) → A ≡ true → text ≡ t → Accepts u s out t
-    accepted t e q = (
-      ap openTold (sym (answer true e)) ∙ ap (λ (n : ℕ). gives (n ∷ [])) (sym text-long ∙ ap length q),
-      sym (buffer true e) ∙ ap (λ (l : List ℕ). l ++ drop (length l) out) q,
-    )
+    accepted t e q =
+        record {
+          answer = ap openTold (sym (answer true e)) ∙ ap (λ (n : ℕ). gives (n ∷ [])) (sym text-long ∙ ap length q);
+          output = sym (buffer true e) ∙ ap (λ (l : List ℕ). l ++ drop (length l) out) q;
+        }
 
     agreed : (t : List ℕ) → Accepts u s out t → (A ≡ true) × (text ≡ t)
-    agreed t (a, b) = by A refl
+    agreed t h = by A refl
       where
         by : (v : Bool) → A ≡ v → (A ≡ true) × (text ≡ t)
         by true e =
-            let n : length s - 16 ≡ length t = ap (λ (r : Told). getD (r .values) 0 0) (ap openTold (answer true e) ∙ a) in
-            let both : text ++ drop (length text) out ≡ t ++ drop (length t) out = buffer true e ∙ b in
+            let n : length s - 16 ≡ length t = ap (λ (r : Told). getD (r .values) 0 0) (ap openTold (answer true e) ∙ h .answer) in
+            let both : text ++ drop (length text) out ≡ t ++ drop (length t) out = buffer true e ∙ h .output in
             let first : take (length t) (text ++ drop (length text) out) ≡ text = take-at text (drop (length text) out) (length t) (text-long ∙ n) in
             (e, sym first ∙ ap (take (length t)) both ∙ take-at t (drop (length t) out) (length t) refl)
         by false e =
-            let z : _≡_ {A = ℕ} 8 0 = ap (λ (r : Told). r .number) (ap openTold (answer false e) ∙ a) in
+            let z : _≡_ {A = ℕ} 8 0 = ap (λ (r : Told). r .number) (ap openTold (answer false e) ∙ h .answer) in
             absurd (omega arith)
 
     answers : ((t : List ℕ) × Accepts u s out t) ⊎ Differs u s out
@@ -155,7 +182,7 @@ module _ (u : Context) (key-bytes : Bytes (u .key)) (nonce-bytes : Bytes (u .non
       where
         by : (v : Bool) → A ≡ v → ((t : List ℕ) × Accepts u s out t) ⊎ Differs u s out
         by true e = inl (text, accepted text e refl)
-        by false e = inr (ap openTold (sym (answer false e)), sym (buffer false e))
+        by false e = inr (record { answer = ap openTold (sym (answer false e)); output = sym (buffer false e) })
 
     image-accepted : (t : List ℕ) → Bytes t → image u t ≡ s → Accepts u s out t
     unfolding A text
@@ -165,10 +192,16 @@ module _ (u : Context) (key-bytes : Bytes (u .key)) (nonce-bytes : Bytes (u .non
     unfolding A text
     accepted-image t bs a = agrees-image s (p .sealed .inputs .key) (p .sealed .inputs .short) t (p .sealed .long) bs (agreed t a .0) (agreed t a .1)
 
+  tests : List ℕ → List ℕ → Answer
+  tests t out = sealTests (u .cipher) (u .steps) (length (u .key)) (length (u .nonce)) (length (u .header)) (length t) (length out)
+
   sealable-done : (t out : List ℕ) → Sealable u t out → sealOutcome (u .cipher) (u .steps) (u .key) (u .nonce) (u .header) t out ≡ Done
-  unfolding sealAnswer
-  sealable-done t out =
-      seal-done (sealOutcome (u .cipher) (u .steps) (u .key) (u .nonce) (u .header) t out) (length t + 16) (length (calls (u .nonce) (u .header) t))
+  unfolding sealOutcome tests
+  sealable-done t out sealable =
+      told-done (tests t out)
+      (ap (λ (r : Told). r .number)
+      (seal-told (u .cipher) (u .steps) (length (u .key)) (length (u .nonce)) (length (u .header)) (length t) (length out))
+      ∙ sealable)
 
   -- what was sealed can be opened wherever there is room
   image-openable : (t out room : List ℕ) → Sealable u t out → length t ≤ length room → Openable u (image u t) room
@@ -178,7 +211,9 @@ module _ (u : Context) (key-bytes : Bytes (u .key)) (nonce-bytes : Bytes (u .non
       let q = seal-passed (u .cipher) (u .steps) (length (u .key)) (length (u .nonce)) (length (u .header)) (length t) (length out) done in
       let l = image-long (q .inputs .short) t in
       let m : length (image u t) - 16 ≡ length t = omega arith in
-      ap (λ (a : Answer). told a .number)
+      let room-due = open-told (u .cipher) (u .steps) (length (u .key)) (length (u .nonce)) (length (u .header)) (length (image u t)) (length room) in
+      sym (ap (λ (r : Told). r .number) room-due)
+      ∙ ap (λ (a : Answer). told a .number)
       (open-passes (u .cipher) (u .steps) (length (u .key)) (length (u .nonce)) (length (u .header)) (length (image u t)) (length room)
       (record { sealed = record { inputs = q .inputs; long = omega arith; text = rw m (q .text) }; room = omega arith }))
 
@@ -189,18 +224,37 @@ module _ (u : Context) (key-bytes : Bytes (u .key)) (nonce-bytes : Bytes (u .non
       seal-passed (u .cipher) (u .steps) (length (u .key)) (length (u .nonce)) (length (u .header)) (length t) (length out) done .inputs .short
 
   image-made : (t out : List ℕ) → Sealable u t out
-      → (sealTells u t out ≡ gives ((length t + 16) ∷ length (calls (u .nonce) (u .header) t) ∷ []))
-      × (sealLeaves u t out ≡ image u t ++ drop (length t + 16) out)
+      → Does (sealTells u t out) (sealLeaves u t out)
+      (gives ((length t + 16) ∷ length (calls (u .nonce) (u .header) t) ∷ [])) (image u t ++ drop (length t + 16) out)
   unfolding sealAnswer sealBuffer
   image-made t out sealable =
-      let done = sealable-done t out sealable in (
-        ap (λ (a : Answer). sealTold (sealReport a (length t + 16) (length (calls (u .nonce) (u .header) t)))) done,
-        ap (λ (a : Answer). written a (image u t) out) done ∙ ap (λ (n : ℕ). image u t ++ drop n out) (image-long (seal-short t out sealable) t),
-      )
+      let done = sealable-done t out sealable in
+      record {
+        answer = ap (λ (a : Answer). sealTold (sealReport a (length t + 16) (length (calls (u .nonce) (u .header) t)))) done;
+        output =
+            ap (λ (a : Answer). written a (image u t) out) done
+            ∙ ap (λ (n : ℕ). image u t ++ drop n out) (image-long (seal-short t out sealable) t);
+      }
+
+  seal-cause : (t out : List ℕ) (n : ℕ) → 0 < n → sealCause u t out ≡ refuses n → Does (sealTells u t out) (sealLeaves u t out) (refuses n) out
+  unfolding sealAnswer sealBuffer sealOutcome tests
+  seal-cause t out n some e =
+      seal-refused n some (image u t) out (tests t out) (length t + 16) (length (calls (u .nonce) (u .header) t))
+      (seal-told (u .cipher) (u .steps) (length (u .key)) (length (u .nonce)) (length (u .header)) (length t) (length out) ∙ e)
+
+  open-cause : (s out : List ℕ) (n : ℕ) → 0 < n → openCause u s out ≡ refuses n → Does (openTells u s out) (openLeaves u s out) (refuses n) out
+  unfolding openAnswer openBuffer openOutcome
+  open-cause s out n some e =
+      open-refused n some (opened (u .cipher) (u .steps) (u .key) (u .nonce) (u .header) s) out
+      (openTests (u .cipher) (u .steps) (length (u .key)) (length (u .nonce)) (length (u .header)) (length s) (length out))
+      (agrees (u .cipher) (u .steps) (u .key) (u .nonce) (u .header) s) (length s - 16)
+      (open-told (u .cipher) (u .steps) (length (u .key)) (length (u .nonce)) (length (u .header)) (length s) (length out) ∙ e)
 
 pub demand2 : Demand2
 demand2 u bk bn =
     record {
+      unsealed = seal-cause u bk bn;
+      unopened = open-cause u bk bn;
       made = image-made u bk bn;
       answered = answers u bk bn;
       exact = λ s out t bs op. (accepted-image u bk bn s out op t bs, λ i. image-accepted u bk bn s out op t (i .0) (i .1));

@@ -5,12 +5,12 @@
 use mathlib.Core.Path.{_≡_}
 use mathlib.Core.Logic.{_↔_, _⊎_}
 use mathlib.Core.List.{List, [], _∷_, _++_}
-use Prim.Native.Nat.{ℕ, _+_, _≤_}
+use Prim.Native.Nat.{ℕ, _+_, _≤_, _<_}
 use lib.ListN.{length, drop}
 use Rattle.bits.specs.Bytes.{Bytes}
 use Rattle.calls.specs.Calls.{calls}
-use Rattle.suites.specs.Told.{Told, gives, refuses, told}
-use Rattle.limits.specs.Tests.{openTests}
+use Rattle.suites.specs.Told.{Told, gives, refuses}
+use Rattle.limits.specs.Due.{sealDue, openDue}
 use Rattle.sealing.specs.Seal.{sealed, sealAnswer, sealBuffer, sealTold}
 use Rattle.opening.specs.Open.{openAnswer, openBuffer, openTold}
 
@@ -40,28 +40,42 @@ openTells u s out = openTold (openAnswer (u .cipher) (u .steps) (u .key) (u .non
 abbrev pub openLeaves : Context → List ℕ → List ℕ → List ℕ
 openLeaves u s out = openBuffer (u .cipher) (u .steps) (u .key) (u .nonce) (u .header) s out
 
--- sealing is not refused
+-- the first refusal that is due by lengths, by number: "Seal: 1, 2, 3, 4, 6, 7", "Open: 1 to 8"
+abbrev pub sealCause : Context → List ℕ → List ℕ → Told
+sealCause u t out = sealDue (u .cipher) (u .steps) (length (u .key)) (length (u .nonce)) (length (u .header)) (length t) (length out)
+
+abbrev pub openCause : Context → List ℕ → List ℕ → Told
+openCause u s out = openDue (u .cipher) (u .steps) (length (u .key)) (length (u .nonce)) (length (u .header)) (length s) (length out)
+
+-- none is due for sealing
 abbrev pub Sealable : Context → List ℕ → List ℕ → Type 0
-Sealable u t out = sealTells u t out .number ≡ 0
+Sealable u t out = sealCause u t out .number ≡ 0
 
 -- "where refusals 1 to 7 don't apply"
 abbrev pub Openable : Context → List ℕ → List ℕ → Type 0
-Openable u s out =
-    told (openTests (u .cipher) (u .steps) (length (u .key)) (length (u .nonce)) (length (u .header)) (length s) (length out)) .number ≡ 0
+Openable u s out = openCause u s out .number ≡ 0
+
+-- a call tells so, and of an output it leaves so
+pub record Does (tells : Told) (left : List ℕ) (due : Told) (result : List ℕ) : Type 0 where
+  pub answer : tells ≡ due
+  pub output : left ≡ result
 
 -- opening accepts the text t: it returns its length, and leaves it at the output's start
 abbrev pub Accepts : Context → List ℕ → List ℕ → List ℕ → Type 0
-Accepts u s out t = (openTells u s out ≡ gives (length t ∷ [])) × (openLeaves u s out ≡ t ++ drop (length t) out)
+Accepts u s out t = Does (openTells u s out) (openLeaves u s out) (gives (length t ∷ [])) (t ++ drop (length t) out)
 
 -- opening refuses with 8, and leaves the output as it was
 abbrev pub Differs : Context → List ℕ → List ℕ → Type 0
-Differs u s out = (openTells u s out ≡ refuses 8) × (openLeaves u s out ≡ out)
+Differs u s out = Does (openTells u s out) (openLeaves u s out) (refuses 8) out
 
 pub record Holds (u : Context) : Type 0 where
+  -- a refusal that is due is given, the first one, and the output is left as it was
+  pub unsealed : (t out : List ℕ) (n : ℕ) → 0 < n → sealCause u t out ≡ refuses n → Does (sealTells u t out) (sealLeaves u t out) (refuses n) out
+  pub unopened : (s out : List ℕ) (n : ℕ) → 0 < n → openCause u s out ≡ refuses n → Does (openTells u s out) (openLeaves u s out) (refuses n) out
   -- sealing leaves the image of the text at the output's start; it returns its length, and the call list's
   pub made : (t out : List ℕ) → Sealable u t out
-      → (sealTells u t out ≡ gives ((length t + 16) ∷ length (calls (u .nonce) (u .header) t) ∷ []))
-      × (sealLeaves u t out ≡ image u t ++ drop (length t + 16) out)
+      → Does (sealTells u t out) (sealLeaves u t out)
+      (gives ((length t + 16) ∷ length (calls (u .nonce) (u .header) t) ∷ [])) (image u t ++ drop (length t + 16) out)
   -- opening accepts a text, or refuses with 8: there is no third answer
   pub answered : (s out : List ℕ) → Openable u s out → ((t : List ℕ) × Accepts u s out t) ⊎ Differs u s out
   -- it accepts a text if and only if sealing that text gives those sealed bytes

@@ -3,12 +3,13 @@ use mathlib.Core.Path.{_≡_, refl, ap, _∙_}
 use mathlib.Core.Bool.{Bool, true, false, not}
 use mathlib.Core.List.{[]}
 use Prim.Native.Nat.{ℕ, _+_}
-use lib.Dec.{leb, ltb}
+use lib.Dec.{eqb, leb, ltb}
 use lib.ListN.{length}
 use Rattle.suites.specs.declared.refusal.Answer.{Answer}
 use Rattle.suites.specs.declared.refusal.Answer.the-variants.{Done}
-use Rattle.suites.specs.declared.refusal.Refusal.{Refusal}
 use Rattle.suites.specs.declared.refusal.Refusal.the-variants.{
+  SuiteNotListed,
+  KeyLength,
   OutputTooShort,
   WriterInvalid,
   WriterClosed,
@@ -16,22 +17,19 @@ use Rattle.suites.specs.declared.refusal.Refusal.the-variants.{
   SegmentLength,
   TooManyUnits,
 }
-use Rattle.suites.specs.Refusal.{number}
+use Rattle.suites.specs.declared.suite.Suite.{Suite}
+use Rattle.suites.specs.Suite.{listed}
 use Rattle.suites.specs.Told.{Told, gives, due, told}
 use Rattle.limits.specs.Tests.{unless}
+use Rattle.limits.proofs.Told.{told-unless}
 use Rattle.fields.specs.Kind.{Kind}
 use Rattle.fields.specs.Languages.{pairAllowed}
 use Rattle.fields.specs.Unit.{inRange}
 use Rattle.kinds.specs.Lengths.{unitLength, closeLength}
-use Rattle.writer.specs.Writer.{writerTests, addTests, addOutcome, closeOutcome}
+use Rattle.writer.specs.Writer.{startOutcome, writerTests, addTests, addOutcome, closeOutcome}
 use Rattle.writer.specs.History.{Call, add, close, State, outcome}
-use Rattle.writer.specs.Left.{answerTo}
+use Rattle.writer.specs.Left.{startAnswerTo, answerTo}
 use Rattle.writer.proofs.Passed.{Valid, valid-is}
-
--- a test and what follows it, by number
-told-unless : (ok : Bool) (why : Refusal) (rest : Answer) (r : Told) → told rest ≡ r → told (unless ok why rest) ≡ due (not ok) (number why) r
-told-unless true why rest r e = e
-told-unless false why rest r e = refl
 
 not-closed : (closed : Bool) (n : ℕ) (r : Told) → due (not (not closed)) n r ≡ due closed n r
 not-closed true n r = refl
@@ -64,3 +62,12 @@ module _ (kind : Kind) (e : State) (v : Valid kind (e .writer) (length (e .buffe
   answers-told close =
       let room = leb (e .writer .place + closeLength kind) (length (e .buffer)) in
       writer-told (unless room OutputTooShort Done) (due (not room) 7 (gives [])) (told-unless room OutputTooShort Done (gives []) refl)
+
+pub start-told : (suite : Suite) (k room : ℕ) → told (startOutcome suite k room) ≡ startAnswerTo suite k room
+unfolding startOutcome
+start-told suite k room =
+    let whole = eqb k 16 in
+    let enough = leb 16 room in
+    let last = unless enough OutputTooShort Done in
+    told-unless (listed (suite .cipher) (suite .steps)) SuiteNotListed (unless whole KeyLength last) (due (not whole) 2 (due (not enough) 7 (gives [])))
+    (told-unless whole KeyLength last (due (not enough) 7 (gives [])) (told-unless enough OutputTooShort Done (gives []) refl))

@@ -46,7 +46,7 @@ use Rattle.writer.specs.History.{
 use Rattle.writer.specs.Left.{laidOut, sealedOf, answerTo, Leaves, writing, WriterHalf}
 use Rattle.writer.proofs.Brings.{bytesOf, brought, Brings, add-long, add-total, brings, refused}
 use Rattle.writer.proofs.Few.{unit-calls, units-calls, close-total}
-use Rattle.writer.proofs.Answers.{answers-told}
+use Rattle.writer.proofs.Answers.{start-told, answers-told}
 use Rattle.writer.proofs.Passed.{start-passed, Valid, valid-is, add-passes, close-passes}
 use Rattle.writer.proofs.Put.{take-put, drop-put, length-put}
 
@@ -333,6 +333,7 @@ module _ (kind : Kind) (formed : WellFormed kind) where
 pub writer-half : (kind : Kind) → WellFormed kind → WriterHalf kind
 writer-half kind formed =
     record {
+      starts = start-told;
       leaves = λ s cs each. stands-leaves kind s formed (run-stands kind s cs each (start-stands kind s));
       writes = λ s us each few enough. rw (started-is s) (ready-writes kind formed us (begun s) each (start-ready kind formed s us few enough));
     }

@@ -4,8 +4,10 @@ use mathlib.Core.Path.{_≡_}
 use mathlib.Core.Bool.{Bool, true, not, cond}
 use mathlib.Core.List.{List, [], _∷_, _++_, map, List·Nodup}
 use Prim.Native.Nat.{ℕ, _+_, _≤_}
-use lib.Dec.{leb, ltb}
+use lib.Dec.{eqb, leb, ltb}
 use lib.ListN.{length, take, drop}
+use Rattle.suites.specs.declared.suite.Suite.{Suite}
+use Rattle.suites.specs.Suite.{listed}
 use Rattle.suites.specs.Told.{Told, gives, due, told}
 use Rattle.fields.specs.Each.{Each, EachFrom}
 use Rattle.fields.specs.Kind.{Kind}
@@ -14,7 +16,7 @@ use Rattle.kinds.specs.Lengths.{unitLength, closeLength}
 use Rattle.format.specs.Layout.{unitsBytes, closeBytes, bookLength, Bookable}
 use Rattle.format.specs.Sealings.{Sealing, openingFields, unitSealings, closeSealing, cipherCalls, callTotal}
 use Rattle.fields.specs.Unit.{BookUnit, Allowed, inRange}
-use Rattle.writer.specs.Writer.{valid}
+use Rattle.writer.specs.Writer.{startOutcome, valid}
 use Rattle.writer.specs.History.{
   Call,
   add,
@@ -41,6 +43,14 @@ laidOut kind s us closed =
 unfoldable pub sealedOf : Kind → Start → List BookUnit → Bool → List Sealing
 sealedOf kind s us closed =
     unitSealings kind (s .suite) (s .number) 0 us ++ cond closed (closeSealing kind (s .suite) (s .number) (length us) ∷ []) []
+
+-- how a start is answered, by number: "Start: 1, 2, 7", under a key of k bytes and with a buffer of room bytes
+abbrev pub startAnswerTo : Suite → ℕ → ℕ → Told
+startAnswerTo suite k room =
+    due (not (listed (suite .cipher) (suite .steps))) 1
+    (due (not (eqb k 16)) 2
+    (due (not (leb 16 room)) 7
+    (gives [])))
 
 -- how a call is answered in a list of calls, by number: "Add: 9 to 13, 7", "Close: 9, 10, 7", of which 9 is never due. The writer is closed or
 -- not, has so many units, and is at a place of a buffer of room bytes.
@@ -90,6 +100,8 @@ abbrev pub writing : List BookUnit → List Call
 writing us = map add us ++ close ∷ []
 
 pub record WriterHalf (kind : Kind) : Type 0 where
+  -- whatever is given to a start
+  pub starts : (suite : Suite) (k room : ℕ) → told (startOutcome suite k room) ≡ startAnswerTo suite k room
   -- whatever the calls
   pub leaves : (s : Start) (cs : List Call) → Each (Callable kind) cs
       → Leaves kind s (units kind cs (started s)) (hasClose kind cs (started s)) (sealings kind cs (started s)) (afterCalls kind cs (started s))
