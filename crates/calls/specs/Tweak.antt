@@ -7,7 +7,7 @@ use lib.ListN.{length}
 use Rattle.bits.specs.Bytes.{bigEndian}
 
 -- "A nonce has n bytes, 1 to 15, and stands first." In all remaining bytes a number, big-endian, with a mark added in the first
--- of these. Within the limits a number leaves the mark's bits free.
+-- of these. Within the limits a number leaves the mark's bits free (text-tweak-bits, header-tweak-bits).
 unfoldable pub tweak : List ℕ → ℕ → ℕ → List ℕ
 tweak nonce mark number = nonce ++ bigEndian (16 - length nonce) (mark * 256 ^ (15 - length nonce) + number)
 
@@ -19,7 +19,7 @@ textTweak nonce i = tweak nonce 0x00 i
 abbrev pub headerTweak : List ℕ → ℕ → List ℕ
 headerTweak nonce i = tweak nonce 0x80 i
 
--- "Special tweaks have after the nonce one byte, then zeros"
+-- "Special tweaks have after the nonce one byte, then zeros" (special-bytes)
 abbrev pub specialTweak : List ℕ → ℕ → List ℕ
 specialTweak nonce byte = tweak nonce byte 0
 

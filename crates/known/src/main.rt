@@ -8,7 +8,8 @@ ghost use lib.ListN.{length};
 
 // Whether header and text pass under a nonce of 15 bytes; one of the two is empty.
 fn run_limit(name: &[u8], header: &[u8], text: &[u8])
-    requires { ⌜ (length (now header) ≤ 4096) × (length (now text) ≤ 4096) ⌝ }
+    requires { ⌜ (length (now header) ≤ 4096)
+        × (length (now text) ≤ 4096) ⌝ }
 {
     let mut out = [0u8; 4096];
     let suite = Suite {

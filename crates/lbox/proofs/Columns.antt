@@ -21,7 +21,8 @@ pub iscream-symmetric : Lbox.iscream ≡ transpose Lbox.iscream
 unfolding Lbox.iscream transpose matrixColumn
 iscream-symmetric = refl
 
--- "its column i is the tables' value at the word with only bit i set", of a matrix whose products with single bits are its columns
+-- "its column i is the tables' value at the word with only bit i set", of a matrix whose products with single bits are its columns. That
+-- `lows` and `highs` are the paper's tables, the contracts of the crate `tables` say.
 columns : (m : List (List ℕ)) → tab 16 (λ i. word (matrixColumn m i)) ≡ tab 16 (λ i. Lbox.times m (2 ^ i))
     → (i : ℕ) → i < 16 → word (matrixColumn m i) ≡ lookedUp (lows m) (highs m) (2 ^ i)
 columns m e i h =

@@ -61,7 +61,8 @@ fn byte_at(s: &[u8], at: usize) -> u8
 // The bytes of the field at a place, at the buffer's start, as far as it goes; and how many. A field ends before the first
 // byte that is below the digits: a blank, a line feed, or the `-` that stands for no bytes.
 fn decode(s: &[u8], at: usize, out: &mut [u8]) -> usize
-    requires { ⌜ (at ≤ 262144) × (length (now out) ≤ 16384) ⌝ }
+    requires { ⌜ (at ≤ 262144)
+        × (length (now out) ≤ 16384) ⌝ }
     ensures { λ r. ⌜ Counts r (now (out .exit)) ⌝ }
 {
     let n = out.len();
@@ -113,7 +114,8 @@ fn write_block(b: [u8; 16]) {
 
 // The place behind the next `stop`, or the end.
 fn behind(s: &[u8], at: usize, stop: u8) -> usize
-    ensures { λ r. ⌜ (r ≤ length (now (s .entry))) × (at < length (now (s .entry)) → at < r) ⌝ }
+    ensures { λ r. ⌜ (r ≤ length (now (s .entry)))
+        × (at < length (now (s .entry)) → at < r) ⌝ }
 {
     let mut i = at;
     while i < s.len() {
@@ -127,7 +129,8 @@ fn behind(s: &[u8], at: usize, stop: u8) -> usize
 
 // Key, tweak, block and the block enciphered: what enciphering the block gives, and what deciphering the other one gives.
 fn run_cipher(suite: Suite, s: &[u8], at: usize)
-    requires { ⌜ (at ≤ length (now s)) × (length (now s) ≤ 262144) ⌝ }
+    requires { ⌜ (at ≤ length (now s))
+        × (length (now s) ≤ 262144) ⌝ }
 {
     let key = block_at(s, at);
     let t = behind(s, at, b' ');
@@ -194,7 +197,8 @@ fn run_input(sealing: bool, suite: Suite, key: &[u8], nonce: &[u8], header: &[u8
 
 // Key, nonce, header, and the text that is sealed or the sealed bytes that are opened.
 fn run_tae(sealing: bool, suite: Suite, s: &[u8], at: usize)
-    requires { ⌜ (at ≤ length (now s)) × (length (now s) ≤ 262144) ⌝ }
+    requires { ⌜ (at ≤ length (now s))
+        × (length (now s) ≤ 262144) ⌝ }
 {
     let mut key = [0u8; 32];
     let mut nonce = [0u8; 32];
@@ -219,7 +223,8 @@ fn run_tae(sealing: bool, suite: Suite, s: &[u8], at: usize)
 
 // Key and book: the unit count and the call total.
 fn run_check(s: &[u8], at: usize)
-    requires { ⌜ (at ≤ length (now s)) × (length (now s) ≤ 262144) ⌝ }
+    requires { ⌜ (at ≤ length (now s))
+        × (length (now s) ≤ 262144) ⌝ }
 {
     let mut key = [0u8; 32];
     let mut book = io::buffer();
@@ -251,7 +256,8 @@ fn suite_at(s: &[u8], at: usize) -> Suite
 
 // One case: the suite, but of a book that is checked, and what its file has. Fields have a blank between them.
 fn run_case(kind: Kind, s: &[u8], at: usize)
-    requires { ⌜ (at ≤ length (now s)) × (length (now s) ≤ 262144) ⌝ }
+    requires { ⌜ (at ≤ length (now s))
+        × (length (now s) ≤ 262144) ⌝ }
 {
     let next = behind(s, at, b' ');
     match kind {
