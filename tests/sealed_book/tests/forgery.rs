@@ -239,17 +239,16 @@ fn partial_last_block() {
     }
 }
 
-/// The books that are accepted among all those in which unit 0 has another last block, of so many bytes.
-fn accepted(book: &Book, len: usize) -> Vec<Vec<u8>> {
-    let (bytes, _) = written(book);
+/// The books that are accepted among all those in which unit k has another last block, of so many bytes.
+fn accepted(key: &[u8], bytes: &[u8], k: u64, len: usize) -> Vec<Vec<u8>> {
     let guesses = (0..1u32 << (8 * len)).map(|guess| {
-        with_ciphertext(&bytes, 0, |ciphertext| {
+        with_ciphertext(bytes, k, |ciphertext| {
             let last = (ciphertext.len() - 1) / 16 * 16;
             [&ciphertext[..last], &guess.to_be_bytes()[4 - len..]].concat()
         })
     });
     guesses
-        .filter(|guess| raw::check(&book.key, guess).is_ok())
+        .filter(|guess| raw::check(key, guess).is_ok())
         .collect()
 }
 
@@ -275,9 +274,9 @@ fn zeros_at_the_end() {
         ] {
             let name = format!("{len} bytes guessed, {suite:?}, seed {:X}", SEED + 6);
             book.units[0].target = before.clone();
-            let forged = accepted(&book, len);
-            assert_eq!(forged.len(), usize::from(after.is_some()), "{name}");
             let (bytes, writer) = written(&book);
+            let forged = accepted(&book.key, &bytes, 0, len);
+            assert_eq!(forged.len(), usize::from(after.is_some()), "{name}");
             for (forged, after) in forged.iter().zip(after) {
                 assert_eq!(forged.len() + before.len(), bytes.len() + after.len());
                 accepts(&book.key, forged, 1, writer.calls, &name);
@@ -289,6 +288,23 @@ fn zeros_at_the_end() {
             }
         }
     }
+}
+
+/// A zero is taken from one unit and added to another: length, unit count and call total are the same. It takes
+/// two right guesses, one of 256 and one of 65,536.
+#[test]
+fn zero_moved() {
+    let mut random = Random::new(SEED + 9);
+    let mut book = random_book(&mut random, (1, 10), 0, 2);
+    book.units = vec![unit(&mut random, 4, 12), unit(&mut random, 4, 11)];
+    book.units[0].target[11] = 0;
+    let (bytes, writer) = written(&book);
+    let taken = accepted(&book.key, &bytes, 0, 1);
+    let moved = accepted(&book.key, &taken[0], 1, 2);
+    assert_eq!((taken.len(), moved.len()), (1, 1));
+    assert_eq!(moved[0].len(), bytes.len());
+    assert_ne!(moved[0], bytes);
+    accepts(&book.key, &moved[0], 2, writer.calls, "a zero moved");
 }
 
 /// Two books of one number, which must never be made: units of one stand in the other, and length, unit count
