@@ -216,8 +216,9 @@ uint32_t sb_check(const uint8_t *key, size_t key_len, const uint8_t *book, size_
  * writes its source and then its target to the start of out; every other byte of out stays as it was. *source_len and
  * *target_len are then their lengths. SB_UNIT_MAX bytes of out are always enough. Nothing is written before the tag has been
  * compared in full. The book need not have been checked: of the units before k only the fields, numbers and languages are looked
- * at, and nothing behind k. Whether or not the book was checked, the unit may have been made shorter on the way: only the receipt of
- * the whole book, compared after sb_check, shows that. Key length and opening fields are tested before the walk. A slice of length 0 may be null.
+ * at, and nothing behind k. Whether or not the book was checked, the unit may have been made shorter on the way: only the receipt
+ * of the whole book, compared after sb_check, shows that. Key length and opening fields are tested before the walk. A slice of
+ * length 0 may be null.
  * Refusals, the first that applies in the order of the bytes: 2; 14 of the opening fields; 1; of each unit before k 14, 13, 15, 11,
  * 14 as in sb_check; of unit k these, then 8, 12, and 7; where the close is met, 14, 15, 8, 14 as in sb_check, then 16. Then out,
  * *source_len and *target_len are as they were. */
