@@ -31,7 +31,7 @@ struct receipt {
     uint64_t bytes, units, calls;
 };
 
-/* Here fixed, in earnest secret. */
+/* Here fixed, in real use secret. */
 static const uint8_t key[SB_KEY_LEN] = {0x00, 0x01, 0x02, 0x03, 0x04, 0x05, 0x06, 0x07,
                                         0x08, 0x09, 0x0A, 0x0B, 0x0C, 0x0D, 0x0E, 0x0F};
 
@@ -75,7 +75,7 @@ static uint32_t read_book(const uint8_t *book, size_t len, const struct receipt 
     if (no != 0) return refused("sb_check", no);
     printf("checked: %lu units, %lu cipher calls\n", (unsigned long)count, (unsigned long)calls);
     if (receipt->bytes != len || receipt->units != count || receipt->calls != calls) {
-        fprintf(stderr, "the book is not the one of the receipt\n");
+        fprintf(stderr, "the book does not have the numbers of the receipt\n");
         return UINT32_MAX; /* no refusal has this number */
     }
     printf("the receipt agrees\n");
@@ -116,7 +116,7 @@ int main(void) {
 
     uint32_t no = write_book(book, room, &receipt);
     if (no == 0) {
-        len = (size_t)receipt.bytes; /* in earnest the length of the file that is received */
+        len = (size_t)receipt.bytes; /* in real use the length of the file that is received */
         printf("receipt: bytes=%lu units=%lu calls=%lu\n", (unsigned long)receipt.bytes, (unsigned long)receipt.units,
                (unsigned long)receipt.calls);
         no = read_book(book, len, &receipt);

@@ -8,8 +8,8 @@
  * There is no state outside what is lent: calls may be made from several threads at once, as long as none writes what another
  * one is lent.
  *
- * How much stack a call takes at most, with the C library's memcpy and memset, which are linked already (where they are linked
- * at their first call, that takes some KB more):
+ * How much stack a call takes at most, measured, with the C library's memcpy and memset, and not counting the dynamic linker,
+ * which may take some KB more at the first call of these:
  *    1 KB  sb_start, sb_place, sb_units, sb_calls, sb_info, sb_unit, sb_unit_at, sb_ciphertext
  *    4 KB  sb_encipher, sb_decipher, sb_encipher_blocks, sb_decipher_blocks
  *    8 KB  sb_seal, sb_add, sb_close, sb_check
@@ -82,7 +82,8 @@ extern "C" {
 #define SB_UNIT_NUMBER 15     /* a unit's number is not the running one, or the close's count is not the number of units */
 #define SB_NO_UNIT 16         /* the book has no unit of that number */
 
-/* A refusal in words: a sentence of static storage, for 0 "done", and never null. The crate for Rust has the same. */
+/* A refusal in words: a sentence of static storage, for 0 "done", and never null. The crate for Rust has the
+ * same sixteen, and one of its own (1,001), where a receipt differs. */
 static inline const char *sb_refusal_text(uint32_t refusal) {
     switch (refusal) {
     case 0: return "done";
@@ -127,9 +128,9 @@ uint32_t sb_decipher_blocks(uint8_t cipher, uint8_t steps, const uint8_t key[SB_
  * nonces under one key must have the same length.
  * Limits: header min(2^(130 - 8n), 2^24) bytes, text min(2^(131 - 8n), 2^24), which are SB_HEADER_MAX(n) and SB_TEXT_MAX(n). A
  * slice of length 0 may be null.
- * How long the text is, is not sealed along: without the key, who knows a text can make sealed bytes of a shorter one from it,
- * which sb_open accepts (docs/SECURITY.md says when). Put text_len into the header, and on opening sealed_len - SB_TAG_LEN: then
- * these are refused.
+ * How long the text is, is not sealed along: without the key, who knows some of a text (16 bytes can be enough) can make sealed
+ * bytes of a shorter one from it, which sb_open accepts (docs/SECURITY.md says when). Put text_len into the header, in a fixed
+ * number of bytes, and on opening sealed_len - SB_TAG_LEN: then these are refused.
  * Refusals, the first that applies: 1, 2, 3, 4, 6, 7; then out, *len and *calls are as they were. */
 uint32_t sb_seal(uint8_t cipher, uint8_t steps, const uint8_t *key, size_t key_len, const uint8_t *nonce, size_t nonce_len,
                  const uint8_t *header, size_t header_len, const uint8_t *text, size_t text_len,
@@ -167,14 +168,16 @@ uint32_t sb_open(uint8_t cipher, uint8_t steps, const uint8_t *key, size_t key_l
  * sb_start leaves, are a closed writer, and sb_add and sb_close refuse it with 9. The writer holds the key: clear it when the book
  * is done.
  *
- * The receipt: without the key, who knows the text of a unit can make it shorter, and so can anybody where it repeats itself; and
- * sb_check accepts the book (docs/SECURITY.md says when). Every book that was made so is shorter, and has fewer cipher calls. So
- * who makes a book keeps three numbers of its writer after sb_close, and sends them another way than the book: one on which nobody
- * can change them who can change the book. They are no secret.
+ * The receipt: without the key, who knows some of the text of a unit (16 bytes can be enough) can make it shorter, and so can
+ * anybody where two equal blocks of 16 bytes stand right before its last one, as in a row of dots; and sb_check accepts the book
+ * (docs/SECURITY.md says when). A book that was made so is shorter, and takes fewer cipher calls. So who makes a book keeps three
+ * numbers of its writer after sb_close, and sends them another way than the book: one on which nobody can change them who can
+ * change the book. They are no secret.
  *     bytes   sb_place(writer)     the length of the file that was received
  *     units   sb_units(writer)     *units of sb_check
  *     calls   sb_calls(writer)     *calls of sb_check
- * Who receives the book compares them with what stands at the right, before any unit is used. As text they are a line as
+ * Who receives the book compares them with what stands at the right, before any unit is used. They do not say which book it is:
+ * another one under the key can have the same three. Compare the book number (sb_info) too. As text they are a line as
  * "bytes=84 units=1 calls=7", which the crate for Rust writes and reads.
  */
 
@@ -201,8 +204,9 @@ uint32_t sb_close(uint8_t writer[SB_WRITER_LEN], uint8_t *buf, size_t buf_len);
 
 /* Checks a whole book, from its first byte to its last, under its key of 16 bytes: accepts it where sb_start, sb_add for each unit
  * and sb_close under this key can have written it, and refuses any other bytes. Only reads. *units is then the number of units,
- * *calls the number of cipher calls that were made for the book: what sb_units and sb_calls give of its writer. That no text was
- * made shorter on the way is known only once these and book_len agree with the receipt (above). A slice of length 0 may be null.
+ * *calls the number of cipher calls that writing these bytes takes: what sb_units and sb_calls give of a writer that leaves them.
+ * That no text was made shorter on the way is known only once these and book_len agree with the receipt (above). A slice of length
+ * 0 may be null.
  * Refusals, the first that applies in the order of the bytes: 2; 14 of the opening fields; 1; of each unit 14 of its number and
  * languages' field, 13, 15, 11, 14 of its ciphertext's and tag's fields, 8, 12; of the close 14 of its fields, 15, 8, and 14 for
  * bytes left over. Then *units and *calls are as they were. */
@@ -212,8 +216,9 @@ uint32_t sb_check(const uint8_t *key, size_t key_len, const uint8_t *book, size_
  * writes its source and then its target to the start of out; every other byte of out stays as it was. *source_len and
  * *target_len are then their lengths. SB_UNIT_MAX bytes of out are always enough. Nothing is written before the tag has been
  * compared in full. The book need not have been checked: of the units before k only the fields, numbers and languages are looked
- * at, and nothing behind k. Then the unit may have been made shorter on the way: only the receipt of the whole book shows that.
- * Key length and opening fields are tested before the walk. A slice of length 0 may be null.
+ * at, and nothing behind k. Whether or not the book was checked, the unit may have been made shorter on the way: only the receipt
+ * of the whole book, compared after sb_check, shows that. Key length and opening fields are tested before the walk. A slice of
+ * length 0 may be null.
  * Refusals, the first that applies in the order of the bytes: 2; 14 of the opening fields; 1; of each unit before k 14, 13, 15, 11,
  * 14 as in sb_check; of unit k these, then 8, 12, and 7; where the close is met, 14, 15, 8, 14 as in sb_check, then 16. Then out,
  * *source_len and *target_len are as they were. */

@@ -11,12 +11,12 @@ use crate::{info, raw, Info, Receipt, Refusal, Suite, Unit};
 /// `Arc<[u8]>`, or whatever else lends bytes.
 ///
 /// That there is a `Book` says that a [`Writer`](crate::Writer) under this key can have left these bytes,
-/// from the first to the last: no unit is missing, doubled, moved or exchanged, and nothing stands behind the
-/// close.
+/// from the first to the last, and that nothing stands behind the close. As far as ciphers and mode are strong,
+/// no unit is missing, doubled, moved or exchanged.
 ///
-/// That a writer did leave them it does not say: without the key, a unit can be made shorter that is known or
-/// repeats itself. A [`Receipt`] from the book's maker shows that, and
-/// [`check_receipt`](Book::check_receipt) takes it.
+/// That a writer did leave them it does not say: without the key, a unit can be made shorter by who knows some of
+/// its text, or where two equal blocks of 16 bytes stand right before its last one. A [`Receipt`] from the book's
+/// maker shows that, and [`check_receipt`](Book::check_receipt) takes it.
 ///
 /// The key is copied, and the copy cleared when the book is dropped.
 ///
@@ -65,7 +65,8 @@ pub struct Book<B> {
 }
 
 impl<B: AsRef<[u8]>> Book<B> {
-    /// Checks the bytes as a whole book under this key. Every unit is opened, and none kept.
+    /// Checks the bytes as a whole book under this key. Every unit is opened, and none kept. Lend `&bytes` to keep
+    /// them after a refusal.
     ///
     /// # Errors
     ///
@@ -93,8 +94,10 @@ impl<B: AsRef<[u8]>> Book<B> {
         })
     }
 
-    /// Checks the bytes as [`check`](Book::check) does, and then that they are those of the receipt, which
-    /// has come from the book's maker another way than the bytes. [`Receipt`] has an example.
+    /// Checks the bytes as [`check`](Book::check) does, and then that length, units and calls are those of the
+    /// receipt, which has come from the book's maker another way than the bytes. It does not tell books apart that
+    /// have the same three numbers: compare [`number`](Book::number) with the one that you expect. [`Receipt`] has
+    /// an example.
     ///
     /// # Errors
     ///
@@ -129,7 +132,7 @@ impl<B: AsRef<[u8]>> Book<B> {
         self.len() == 0
     }
 
-    /// How many calls of the cipher it has taken to write.
+    /// How many calls of the cipher writing these bytes takes.
     pub fn calls(&self) -> u64 {
         self.receipt.calls
     }

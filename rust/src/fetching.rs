@@ -12,8 +12,9 @@ use crate::{raw, Refusal, Unit};
 ///   key to a book of this number and suite, as its unit `k`.
 ///
 /// What is not:
-/// - that its text was not made shorter on the way: without the key that can be done where the text is known
-///   or repeats itself. Only a [`Receipt`](crate::Receipt) of the whole book shows it;
+/// - that its text was not made shorter on the way: without the key that can be done by who knows some of it, or
+///   where two equal blocks of 16 bytes stand right before its last one. Only a [`Receipt`](crate::Receipt) of the
+///   whole book shows it;
 /// - the seals of the other units: what stands before `k` may have been changed, and what stands behind
 ///   it is not looked at;
 /// - that the book is whole: its end may be missing. Only [`Refusal::NoSuchUnit`] is said after the close

@@ -3,8 +3,8 @@
 //!
 //! A book is a list of **units**, each a source text and its translation, with the languages of the two.
 //! A [`Writer`] writes one, and gives a [`Receipt`] with it; [`Book::check_receipt`] accepts the bytes under
-//! the key where a writer can have left them and they are those of the receipt, and refuses any other; units
-//! are then fetched one by one or in order. Texts are sealed with the tweakable block ciphers Scream and iScream
+//! the key where a writer can have left them and they have the receipt's three numbers, and refuses any other;
+//! units are then fetched one by one or in order. Texts are sealed with the tweakable block ciphers Scream and iScream
 //! (CAESAR version 1).
 //!
 //! ```
@@ -42,7 +42,7 @@
 //! way may be accepted ([`Receipt`] says when). What is not checked as a whole can be fetched from, too:
 //! [`fetch`] says what is tested then. [`info`] and [`clear_unit`] read what stands in the clear, without the
 //! key. [`seal`] and [`open`] do a single text. What a call turns down it refuses with a [`Refusal`], and leaves
-//! everything as it was.
+//! everything that was lent as it was; bytes that a call takes are dropped, so lend `&bytes` to keep them.
 //!
 //! # What stands below
 //!

@@ -10,14 +10,15 @@ use std::str::FromStr;
 ///
 /// # What it is for
 ///
-/// The mode of version 1 does not seal how long a text is. Without the key, who knows the text of a unit can
-/// take blocks before its last one away and set the last one right, so that
+/// The mode of version 1 does not seal how long a text is. Without the key, who knows some of the text of a unit
+/// (16 bytes can be enough) can take blocks right before its last one away and set the last one right, so that
 /// [`Book::check`](crate::Book::check) accepts the book with a shorter unit in it; where two such blocks are
-/// equal, the text need not even be known. docs/SECURITY.md in the repository says when this can be done. All
-/// of this makes the book shorter and its calls of the cipher fewer, so that its receipt is another one.
+/// equal, as in a row of dots, the text need not even be known. docs/SECURITY.md in the repository says when this
+/// can be done. It makes the book shorter and its calls of the cipher fewer, so that its receipt is another one.
 ///
 /// Send the receipt another way than the book: one on which nobody can change it who can change the book. It
-/// is no secret, since the bytes of a book show as much to anyone.
+/// is no secret, since the bytes of a book show as much to anyone. It does not say which book it is: another
+/// book under the key with the same three numbers has the same receipt. Compare the book number too.
 ///
 /// # As text
 ///
@@ -42,7 +43,7 @@ use std::str::FromStr;
 /// let book = Book::check_receipt(&key, bytes, &receipt)?;
 /// assert_eq!(book.fetch(0)?.target_text()?, "Ventil");
 ///
-/// // a whole book under this key, and not the one of the receipt
+/// // a whole book under this key, with other numbers than the receipt's
 /// let (other, _) = Writer::start(Suite::SCREAM_10, &key, 8)?.close()?;
 /// let answer = Book::check_receipt(&key, other, &receipt);
 /// assert_eq!(answer.err(), Some(Refusal::ReceiptDiffers));
@@ -55,7 +56,7 @@ pub struct Receipt {
     pub bytes: u64,
     /// How many units it has.
     pub units: u64,
-    /// How many calls of the cipher it has taken to write.
+    /// How many calls of the cipher writing these bytes takes.
     pub calls: u64,
 }
 

@@ -7,8 +7,8 @@ use std::fmt;
 /// sentence for whoever made the call. [`ReceiptDiffers`] is this crate's own, and its number none of the
 /// library's.
 ///
-/// A call tests its causes in a fixed order and gives the first that applies. After a refusal all is as
-/// it was before the call.
+/// A call tests its causes in a fixed order and gives the first that applies. After a refusal all
+/// that was lent is as it was before the call.
 #[derive(Clone, Copy, Debug, PartialEq, Eq, Hash)]
 #[repr(u32)]
 #[non_exhaustive]
@@ -47,8 +47,8 @@ pub enum Refusal {
     NumberOutOfOrder = 15,
     /// The book has no unit of this number.
     NoSuchUnit = 16,
-    /// The bytes are accepted under the key, and are not those of the receipt: some were taken away, or
-    /// it is another book. The library does not give this; [`Book::check_receipt`](crate::Book::check_receipt)
+    /// The bytes are accepted under the key, and do not have the numbers of the receipt: some were taken away,
+    /// or book or receipt is another. The library does not give this; [`Book::check_receipt`](crate::Book::check_receipt)
     /// does.
     ReceiptDiffers = 1_001,
 }
@@ -119,7 +119,7 @@ impl fmt::Display for Refusal {
                 "a unit's number is not the running one, or the close's count is not that of the units"
             }
             NoSuchUnit => "the book has no unit of this number",
-            ReceiptDiffers => "the book is not the one of the receipt: bytes were taken away, or it is another",
+            ReceiptDiffers => "the book does not have the numbers of the receipt: bytes were taken away, or book or receipt is another",
         })
     }
 }

@@ -12,9 +12,10 @@ use crate::{raw, Refusal, Suite};
 ///
 /// # The text's length
 ///
-/// The text's length is not sealed along: without the key, who knows a text can make sealed bytes of a shorter
-/// one from it, which [`open`] accepts; docs/SECURITY.md in the repository says when. Put the text's length
-/// into the header, and on opening the length of what has come (`sealed.len() - 16`): then these are refused.
+/// The text's length is not sealed along: without the key, who knows some of a text (16 bytes can be enough) can
+/// make sealed bytes of a shorter one from it, which [`open`] accepts; docs/SECURITY.md in the repository says
+/// when. Put the text's length into the header, in a fixed number of bytes, and on opening the length of what has
+/// come (`sealed.len() - 16`): then these are refused.
 ///
 /// # Errors
 ///

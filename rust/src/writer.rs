@@ -17,8 +17,8 @@ const FIRST: usize = 1_024;
 /// # One book number, one book
 ///
 /// Under one key a book number must never be used twice, not for two books and not for two versions of
-/// one: units of the same place would be sealed under the same tweaks, and show where they agree. For the
-/// same reason a writer cannot be cloned.
+/// one: units of the same place would be sealed under the same tweaks, show where they agree, and could be
+/// exchanged. For the same reason a writer cannot be cloned.
 ///
 /// # The key
 ///

@@ -1,5 +1,5 @@
 //! The receipt of a book: it is the book's three numbers, goes through text, and refuses what was made shorter
-//! without the key, which checking alone accepts.
+//! or longer without the key, which checking alone accepts.
 
 mod common;
 
@@ -219,5 +219,53 @@ fn two_equal_blocks() {
         );
         let answer = Book::check_receipt(&given.key, &forged, &receipt);
         assert_eq!(answer.err(), Some(ReceiptDiffers), "{suite}");
+    }
+}
+
+/// A zero byte at the end of a text of 17 bytes: of all guesses of the new last block, two bytes, one is accepted.
+/// The book has one byte more and as many calls, and the receipt refuses it.
+#[test]
+fn zero_at_the_end() {
+    let mut random = Random::new(SEED + 3);
+    let given = book(&mut random, Suite::SCREAM_10, &[(4, 11)]);
+    let receipt = expected(&[(4, 11)]);
+    let bytes = written(&given);
+    let part = raw::unit(&bytes, 0).unwrap().ciphertext;
+    assert_eq!(part.len(), 17);
+    let mut forged = bytes.clone();
+    forged.insert(part.end, 0);
+    forged[part.start - 1] += 1;
+    let mut accepted = 0;
+    for guess in 0..=u16::MAX {
+        forged[part.end - 1..=part.end].copy_from_slice(&guess.to_be_bytes());
+        let Ok(book) = Book::check(&given.key, &forged) else {
+            continue;
+        };
+        accepted += 1;
+        let target = [&given.units[0].target[..], &[0]].concat();
+        assert_eq!(book.fetch(0).unwrap().target, target);
+        assert_eq!(
+            (book.receipt().bytes - 1, book.calls()),
+            (receipt.bytes, receipt.calls)
+        );
+        let answer = Book::check_receipt(&given.key, &forged, &receipt);
+        assert_eq!(answer.err(), Some(ReceiptDiffers));
+    }
+    assert_eq!(accepted, 1);
+}
+
+/// It does not say which book it is: another one under the key with the same lengths has the same receipt, and
+/// another number.
+#[test]
+fn not_which_book() {
+    let mut random = Random::new(SEED + 4);
+    for suite in Suite::ALL {
+        let given = book(&mut random, suite, &[(20, 21), (7, 8)]);
+        let mut other = given.clone();
+        other.number ^= 1;
+        other.units = book(&mut random, suite, &[(20, 21), (7, 8)]).units;
+        let receipt = expected(&[(20, 21), (7, 8)]);
+        let checked = Book::check_receipt(&given.key, written(&other), &receipt).unwrap();
+        assert_eq!(checked.number(), given.number ^ 1);
     }
 }

@@ -8,7 +8,7 @@ use crate::{foreign, refusal, Refusal};
 pub struct Checked {
     /// How many units the book has.
     pub units: u64,
-    /// How many calls of the cipher it has taken to write.
+    /// How many calls of the cipher writing these bytes takes.
     pub calls: u64,
 }
 

@@ -1,12 +1,12 @@
-//! What the mode of version 1 does not protect: sealed bytes of a shorter text, made from others without the
-//! key, which opening, checking and fetching accept. docs/SECURITY.md says this to the user; these tests see
-//! that it is so, and that what is said against it helps.
+//! What the mode of version 1 does not protect: sealed bytes of another text, made from those of a first one
+//! without the key, which opening, checking and fetching accept. docs/SECURITY.md says this to the user; these
+//! tests see that it is so, and that what is said against it helps.
 
 mod common;
 
 use common::checking::{accepts, refuses};
 use common::fetching::{answer_of, fetch_gives, Which, ROOM};
-use common::parts::{random_book, written};
+use common::parts::{random_book, three_units, written, Parts};
 use common::sealing::Given;
 use common::writing::unit;
 use reference::book::{Book, Unit};
@@ -45,13 +45,18 @@ fn before_last(text: &[u8], j: usize) -> &[u8] {
     &text[last - 16 * j..last]
 }
 
-/// The book with unit k shortened: its ciphertext, and its length in field 11. This takes no key.
-fn forged(book: &[u8], k: u64, j: usize, added: &[u8; 16]) -> Vec<u8> {
+/// The book with another ciphertext in unit k, and its length in field 11. This takes no key.
+fn with_ciphertext(book: &[u8], k: u64, new: impl Fn(&[u8]) -> Vec<u8>) -> Vec<u8> {
     let part = raw::unit(book, k).expect("a unit").ciphertext;
-    let ciphertext = shortened(&book[part.clone()], j, added);
+    let ciphertext = new(&book[part.clone()]);
     let len = (ciphertext.len() as u16).to_be_bytes();
     let [before, behind] = [&book[..part.start - 2], &book[part.end..]];
     [before, &len, &ciphertext, behind].concat()
+}
+
+/// The book with unit k shortened.
+fn forged(book: &[u8], k: u64, j: usize, added: &[u8; 16]) -> Vec<u8> {
+    with_ciphertext(book, k, |ciphertext| shortened(ciphertext, j, added))
 }
 
 /// What is fetched of this text: "a two-byte source length s, source, target"; a refusal where s is out of
@@ -137,7 +142,31 @@ fn known_text() {
     }
 }
 
-/// Two equal blocks before the last one go, whatever they are and however long the text is.
+/// Of the text only the block right before the last one is known: that is enough to take it away. A wrong
+/// guess is seen.
+#[test]
+fn one_known_block() {
+    let mut random = Random::new(SEED + 5);
+    let known = *b"Call the service";
+    for suite in SUITES {
+        for blocks in 3..=7 {
+            let name = format!("{blocks} blocks, {suite:?}, seed {:X}", SEED + 5);
+            let mut book = with_blocks(&mut random, suite, 9, blocks);
+            // before the target the text has two bytes of length, and nine of source
+            let at = 16 * (blocks - 2) - 11;
+            book.units[1].target[at..at + 16].copy_from_slice(&known);
+            let (bytes, _) = written(&book);
+            let shorter = shortened(&book.units[1].text(), 1, &known);
+            says(&book, &forged(&bytes, 1, 1, &known), 1, 1, &shorter, &name);
+
+            let guess = b"Call the Service";
+            refuses(&book.key, &forged(&bytes, 1, 1, guess), 8, &name);
+        }
+    }
+}
+
+/// Two equal blocks right before the last one go, whatever they are and however long the text is; so does any
+/// run of blocks there whose sum is zero. Equal blocks that stand elsewhere do not.
 #[test]
 fn two_equal_blocks() {
     let mut random = Random::new(SEED + 1);
@@ -161,6 +190,26 @@ fn two_equal_blocks() {
             let (bytes, _) = written(&book);
             let forged = self::forged(&bytes, 1, 2, &[0; 16]);
             refuses(&book.key, &forged, 8, &name);
+
+            // one, another, and the same again
+            let other = random.some_bytes(16);
+            let rest = random.some_bytes(end);
+            book.units[1].target = [&line, &other, &line, &other, &rest[..]].concat();
+            let (bytes, _) = written(&book);
+            let forged = self::forged(&bytes, 1, 4, &[0; 16]);
+            let without = Unit {
+                target: rest.clone(),
+                ..book.units[1].clone()
+            };
+            says(&book, &forged, 1, 4, &without.text(), &name);
+
+            // two equal ones, and one more before the last block
+            book.units[1].target = [&line, &line, &other, &rest[..]].concat();
+            let (bytes, _) = written(&book);
+            let without = with_ciphertext(&bytes, 1, |ciphertext| {
+                [&ciphertext[..32], &ciphertext[64..]].concat()
+            });
+            refuses(&book.key, &without, 8, &name);
         }
     }
 }
@@ -187,6 +236,111 @@ fn partial_last_block() {
             let shorter = shortened(&text, 1, &added);
             says(&book, &forged(&bytes, 1, 1, &added), 1, 1, &shorter, &name);
         }
+    }
+}
+
+/// The books that are accepted among all those in which unit k has another last block, of so many bytes.
+fn accepted(key: &[u8], bytes: &[u8], k: u64, len: usize) -> Vec<Vec<u8>> {
+    let guesses = (0..1u32 << (8 * len)).map(|guess| {
+        with_ciphertext(bytes, k, |ciphertext| {
+            let last = (ciphertext.len() - 1) / 16 * 16;
+            [&ciphertext[..last], &guess.to_be_bytes()[4 - len..]].concat()
+        })
+    });
+    guesses
+        .filter(|guess| raw::check(key, guess).is_ok())
+        .collect()
+}
+
+/// A partial last block, exchanged for one of another length by guessing: of all guesses exactly one is
+/// accepted where the two differ by zeros at the end, and else none. The call total stays.
+#[test]
+fn zeros_at_the_end() {
+    let mut random = Random::new(SEED + 6);
+    for suite in [(1, 10), (2, 12)] {
+        let mut book = random_book(&mut random, suite, 0, 2);
+        book.units = vec![unit(&mut random, 4, 11)];
+        let target = &mut book.units[0].target;
+        target[10] |= 1;
+        let one = target.clone();
+        let two = [&one[..], &[0]].concat();
+
+        // a text of 17 bytes gets a zero more, and loses it; one that ends otherwise loses nothing
+        let other = [&one[..], &[1]].concat();
+        for (before, len, after) in [
+            (&one, 2, Some(&two)),
+            (&two, 1, Some(&one)),
+            (&other, 1, None),
+        ] {
+            let name = format!("{len} bytes guessed, {suite:?}, seed {:X}", SEED + 6);
+            book.units[0].target = before.clone();
+            let (bytes, writer) = written(&book);
+            let forged = accepted(&book.key, &bytes, 0, len);
+            assert_eq!(forged.len(), usize::from(after.is_some()), "{name}");
+            for (forged, after) in forged.iter().zip(after) {
+                assert_eq!(forged.len() + before.len(), bytes.len() + after.len());
+                accepts(&book.key, forged, 1, writer.calls, &name);
+                let unit = Fetched {
+                    source: book.units[0].source.clone(),
+                    target: after.clone(),
+                };
+                fetch_gives(&book.key, forged, Which::Walked(0), ROOM, &Ok(unit), &name);
+            }
+        }
+    }
+}
+
+/// A zero is taken from one unit and added to another: length, unit count and call total are the same. It takes
+/// two right guesses, one of 256 and one of 65,536.
+#[test]
+fn zero_moved() {
+    let mut random = Random::new(SEED + 9);
+    let mut book = random_book(&mut random, (1, 10), 0, 2);
+    book.units = vec![unit(&mut random, 4, 12), unit(&mut random, 4, 11)];
+    book.units[0].target[11] = 0;
+    let (bytes, writer) = written(&book);
+    let taken = accepted(&book.key, &bytes, 0, 1);
+    let moved = accepted(&book.key, &taken[0], 1, 2);
+    assert_eq!((taken.len(), moved.len()), (1, 1));
+    assert_eq!(moved[0].len(), bytes.len());
+    assert_ne!(moved[0], bytes);
+    accepts(&book.key, &moved[0], 2, writer.calls, "a zero moved");
+}
+
+/// Two books of one number, which must never be made: units of one stand in the other, and length, unit count
+/// and call total are the same. A book is cut where the other one ends, with the other one's close.
+#[test]
+fn two_books_of_one_number() {
+    let mut random = Random::new(SEED + 7);
+    for suite in SUITES {
+        let name = format!("{suite:?}, seed {:X}", SEED + 7);
+        let newer = three_units(&mut random, suite);
+        let mut older = newer.clone();
+        older.units = three_units(&mut random, suite).units;
+        let (bytes, writer) = written(&newer);
+        for k in 0..3 {
+            let mut mixed = Parts::of(&newer);
+            mixed.units[k] = Parts::of(&older).units[k].clone();
+            let mixed = mixed.joined();
+            assert_eq!(mixed.len(), bytes.len(), "{name}");
+            accepts(&newer.key, &mixed, writer.units, writer.calls, &name);
+            for other in 0..3 {
+                let from = if other == k { &older } else { &newer };
+                let unit = Fetched {
+                    source: from.units[other].source.clone(),
+                    target: from.units[other].target.clone(),
+                };
+                let which = Which::Walked(other as u64);
+                fetch_gives(&newer.key, &mixed, which, ROOM, &Ok(unit), &name);
+            }
+        }
+
+        older.units.truncate(2);
+        let mut cut = Parts::of(&newer);
+        cut.units.truncate(2);
+        cut.close = Parts::of(&older).close;
+        let (_, writer) = written(&older);
+        accepts(&newer.key, &cut.joined(), 2, writer.calls, &name);
     }
 }
 
@@ -275,6 +429,40 @@ fn open_as_empty() {
             sealed.body.drain(..given.body.len());
             sealed.header = with_length(&given.header, 0);
             sealed.open_gives(0, &Err(8), &name);
+        }
+    }
+}
+
+/// From the sealed empty text one of a zero byte: one guess of 256. With the length sealed along, none.
+#[test]
+fn open_with_a_zero() {
+    let mut random = Random::new(SEED + 8);
+    for suite in SUITES {
+        for (n, a) in [(1, 0), (12, 25), (15, 16)] {
+            let name = format!("header of {a}, {suite:?}, seed {:X}", SEED + 8);
+            let given = Given::random(&mut random, suite, n, a, 0);
+            let mut along = given.clone();
+            along.header = with_length(&given.header, 0);
+            let tags = [&given, &along].map(|given| given.there_and_back(&name).body);
+            let mut opened = 0;
+            for guess in 0..=255 {
+                let [short, along] = tags.each_ref().map(|tag| [&[guess], &tag[..]].concat());
+                let short = given.with_body(short);
+                let answer = short.open_answer(1);
+                short.open_gives(1, &answer, &name);
+                match answer {
+                    Ok(text) => {
+                        assert_eq!(text, [0], "{name}");
+                        opened += 1;
+                    }
+                    Err(number) => assert_eq!(number, 8, "{name}"),
+                }
+
+                let mut along = given.with_body(along);
+                along.header = with_length(&given.header, 1);
+                along.open_gives(1, &Err(8), &name);
+            }
+            assert_eq!(opened, 1, "{name}");
         }
     }
 }
