@@ -67,7 +67,8 @@ pub record Demand3 : Type 0 where
   pub one : (k : BookKind) (h₁ h₂ : History (kindOf k))
       → h₁ .start .key ≡ h₂ .start .key → leaves h₁ ≡ leaves h₂ → unitsAdded h₁ ≡ unitsAdded h₂
   -- Besides the demand's words: what stands before the writer's place and behind it, that the sealings are those of the bytes there, and that
-  -- every list of allowed units can be written. Without it a writer and a checker that refuse all would do.
+  -- every list of allowed units can be written; and by number how a start and each call of a list are answered. Without it a writer and a
+  -- checker that refuse all would do.
   pub written : (k : BookKind) → WriterHalf (kindOf k)
   -- and that the kind in the contracts of start, add and close is one of these
   pub newest : kindOf newest ≡ writerKind

@@ -6,7 +6,7 @@ use native.Mathlib.Omega.{arith}
 use lib.ListN.{length, take}
 use Rattle.suites.specs.declared.refusal.Answer.{Answer}
 use Rattle.suites.specs.declared.refusal.Answer.the-variants.{Done, Refused}
-use Rattle.suites.specs.Told.{gives, byAnswer}
+use Rattle.suites.specs.Told.{Told, gives, byAnswer}
 use Rattle.fields.specs.Each.{Each, none, more}
 use Rattle.fields.specs.Kind.{Kind, writerKind}
 use Rattle.bits.specs.Bytes.{Bytes}
@@ -151,6 +151,8 @@ accepted-left key x keyBytes bytes long own n t e =
 pub for-c : ForC
 for-c =
     record {
+      starts = λ {suite} {key} {number} {buf} h.
+          h .returns ∙ ap (λ (t : Told). t .number) (demand3 .written newest .starts suite (length key) (length buf));
       every = made;
       same = λ h l. list-same h l .0;
       returns = λ h l. list-same h l .1;

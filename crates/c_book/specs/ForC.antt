@@ -11,7 +11,9 @@ use Rattle.suites.specs.Told.{gives, told}
 use Rattle.fields.specs.Kind.{Kind, writerKind}
 use Rattle.kinds.specs.Kind.{kindOf, bookKind}
 use Rattle.format.specs.Sealings.{cipherCalls, callTotal}
+use Rattle.suites.specs.declared.suite.Suite.{Suite}
 use Rattle.writer.specs.declared.Writer.{Writer}
+use Rattle.writer.specs.Left.{startAnswerTo}
 use Rattle.writer.specs.History.{Call, State, outcome, afterCall, started, hasClose, sealings}
 use Rattle.writer_bytes.specs.WriterBytes.{writerOf}
 use Rattle.checker.specs.Check.{checkAnswer, checkTold}
@@ -55,6 +57,9 @@ pub record LeavesForC {h : History writerKind} (l : InC h) (key x : List ℕ) : 
   pub string : left l ≡ x
 
 pub record ForC : Type 0 where
+  -- "Start: 1, 2, 7": what sb_start returns, whatever it is given
+  pub starts : {suite : Suite} {key : List ℕ} {number : ℕ} {buf : List ℕ} {r : ℕ} {k : Kept} → StartsForC suite key number buf r k
+      → r ≡ startAnswerTo suite (length key) (length buf) .number
   -- every list of calls of demand 3 on a buffer that can be lent can be made by C
   pub every : (h : History writerKind) → length (h .start .buffer) < 2 ^ 64 → InC h
   -- the writer that the bytes hold and the buffer are that list's, and so is what each call returns

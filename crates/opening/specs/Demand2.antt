@@ -40,7 +40,7 @@ openTells u s out = openTold (openAnswer (u .cipher) (u .steps) (u .key) (u .non
 abbrev pub openLeaves : Context → List ℕ → List ℕ → List ℕ
 openLeaves u s out = openBuffer (u .cipher) (u .steps) (u .key) (u .nonce) (u .header) s out
 
--- the first refusal that is due by lengths, by number: "Seal: 1, 2, 3, 4, 6, 7", "Open: 1 to 8"
+-- the first refusal that is due by lengths, by number: "Seal: 1, 2, 3, 4, 6, 7", and of "Open: 1 to 8" 1 to 7
 abbrev pub sealCause : Context → List ℕ → List ℕ → Told
 sealCause u t out = sealDue (u .cipher) (u .steps) (length (u .key)) (length (u .nonce)) (length (u .header)) (length t) (length out)
 

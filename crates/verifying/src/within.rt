@@ -37,7 +37,7 @@ fn within_tested(
 }
 
 // Opens into a working buffer, for a caller that hands out nothing of it unless the answer is Done: the text stands there also where its tag
-// differs. The buffer has whole blocks. Refusals: 1 to 6, 8.
+// differs. It serves our own crates, whose buffer has whole blocks. Refusals: 1 to 6, 8.
 pub fn open_within(
     suite: Suite,
     key: &[u8],
