@@ -27,8 +27,8 @@
 extern "C" {
 #endif
 
-/* The version of these declarations. It moves whenever one of them changes its meaning; an archive goes with the header of its
- * own version only.
+/* The version of these declarations, N of the library's version 0.N.x. It moves whenever one of them changes its meaning; an
+ * archive goes with the header of its own version only. CHANGELOG.md has what changed.
  *   1  headers that do not define it
  *   2  sb_fetch_at has one more parameter at its end, *next */
 #define SB_VERSION 2
@@ -164,9 +164,8 @@ uint32_t sb_open(uint8_t cipher, uint8_t steps, const uint8_t *key, size_t key_l
  *   40..47  unit count
  *   48..55  call total: the number of cipher calls made for the book
  *   56..63  not used, likewise
- * Any 64 bytes may be lent: they are answered as the writer with these fields. 64 zero bytes, which a refused
- * sb_start leaves, are a closed writer, and sb_add and sb_close refuse it with 9. The writer holds the key: clear it when the book
- * is done.
+ * sb_add and sb_close take any 64 bytes and read these fields from them, so bytes that are no valid writer are refused with 9 and
+ * do no harm. So are 64 zero bytes, which a refused sb_start leaves. The writer holds the key: clear it when the book is done.
  *
  * The receipt: without the key, who knows some of the text of a unit (16 bytes can be enough) can make it shorter, and so can
  * anybody where two equal blocks of 16 bytes stand right before its last one, as in a row of dots; and sb_check accepts the book
@@ -204,9 +203,9 @@ uint32_t sb_close(uint8_t writer[SB_WRITER_LEN], uint8_t *buf, size_t buf_len);
 
 /* Checks a whole book, from its first byte to its last, under its key of 16 bytes: accepts it where sb_start, sb_add for each unit
  * and sb_close under this key can have written it, and refuses any other bytes. Only reads. *units is then the number of units,
- * *calls the number of cipher calls that writing these bytes takes: what sb_units and sb_calls give of a writer that leaves them.
- * That no text was made shorter on the way is known only once these and book_len agree with the receipt (above). A slice of length
- * 0 may be null.
+ * *calls the number of cipher calls that it took to write the book: the numbers that sb_units and sb_calls gave of its writer.
+ * Compare these and book_len with the receipt (above): only then it is known that no text was made shorter on the way. A slice of
+ * length 0 may be null.
  * Refusals, the first that applies in the order of the bytes: 2; 14 of the opening fields; 1; of each unit 14 of its number and
  * languages' field, 13, 15, 11, 14 of its ciphertext's and tag's fields, 8, 12; of the close 14 of its fields, 15, 8, and 14 for
  * bytes left over. Then *units and *calls are as they were. */
@@ -228,8 +227,8 @@ uint32_t sb_fetch(const uint8_t *key, size_t key_len, const uint8_t *book, size_
 /* The same of unit `number` where its fields begin at byte `at` of the book, without a walk; *next is then where the next unit
  * begins, or the close. So a book is gone over in time linear in its length:
  *     for (k = 0, at = SB_FIRST_UNIT; (no = sb_fetch_at(.., k, (size_t)at, .., &at)) == 0; k++) ..
- * ends with SB_NO_UNIT at the close of a whole book. Any place may be given, also one past the end, which is as the end; what
- * stands there is read as unit `number`, or as the close. Only the opening fields are looked at besides.
+ * ends with SB_NO_UNIT at the close of a whole book. What stands at the place is read as unit `number`, or as the close; only the
+ * opening fields are looked at besides. Any place may be given; one past the book's end is refused with 14.
  * Refusals: those of sb_fetch without the units before k. Then out, *source_len, *target_len and *next are as they were. */
 uint32_t sb_fetch_at(const uint8_t *key, size_t key_len, const uint8_t *book, size_t book_len, uint64_t number, size_t at,
                      uint8_t *out, size_t out_len, uint64_t *source_len, uint64_t *target_len, uint64_t *next);
@@ -247,7 +246,8 @@ uint32_t sb_info(const uint8_t *book, size_t book_len, uint8_t *cipher, uint8_t 
 
 /* Of unit `number`, whose fields begin at byte `at` of the book: its language codes, *from_len letters in from and *to_len in to,
  * zeros behind them up to SB_CODE_ROOM bytes; its ciphertext, *ciphertext_len bytes from byte *ciphertext_at of the book on, 2 more
- * than source and target have together; and *next, where the next unit begins, or the close. Any place may be given, as with sb_fetch_at. No seal is tested.
+ * than source and target have together; and *next, where the next unit begins, or the close. Any place may be given, as with
+ * sb_fetch_at. No seal is tested.
  * Refusals, the first that applies: 14 of the opening fields, 1; of what stands at the place 14, 13, 15, 11, 14 as in sb_fetch of a
  * unit; where it begins as a close does, 14 of the close's fields, 15, then 16, whatever stands behind it. Then everything that
  * was lent is as it was. */

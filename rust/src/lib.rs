@@ -12,44 +12,34 @@
 //!
 //! # fn main() -> Result<(), Box<dyn std::error::Error>> {
 //! # let key = [7; 16];
-//! // `key` is 16 secret bytes; no other book under it has the number 7
+//! // key: 16 secret bytes; no other book under it has the number 7
 //! let mut writer = Writer::start(Suite::SCREAM_10, &key, 7)?;
 //! writer.add("en", "de", "Hold the button down.", "Halten Sie die Taste.")?;
 //! writer.add("en", "fr", "Hold the button down.", "Maintenez le bouton.")?;
-//! writer.add("en", "de", "Close the valve.", "")?;
-//! let (bytes, receipt) = writer.close()?;
+//! let (bytes, receipt) = writer.close()?; // the receipt goes another way than the bytes
 //!
-//! // all of it is checked, and held to the receipt, which has come another way; the book keeps its bytes
-//! let book = Book::check_receipt(&key, bytes, &receipt)?;
-//! assert_eq!(book.len(), 3);
-//!
-//! // one unit
-//! let unit = book.fetch(1)?;
-//! assert_eq!(unit.target_language(), "fr");
-//! assert_eq!(unit.target_text()?, "Maintenez le bouton.");
-//! assert_eq!(book.fetch(3), Err(Refusal::NoSuchUnit));
-//!
-//! // all units
+//! let book = Book::check_receipt(&key, bytes, &receipt)?; // all of it, or a refusal
+//! assert_eq!(book.fetch(1)?.target_text()?, "Maintenez le bouton.");
 //! for unit in &book {
-//!     let unit = unit?;
-//!     println!("{}: {}", unit.source_language(), unit.source_text()?);
+//!     println!("{}", unit?.source_text()?);
 //! }
+//! assert_eq!(book.fetch(2), Err(Refusal::NoSuchUnit)); // what cannot be done says why
 //! # Ok(())
 //! # }
 //! ```
 //!
 //! Where there is no receipt, [`Book::check`] does the rest: without one, a text that was made shorter on the
-//! way may be accepted ([`Receipt`] says when). What is not checked as a whole can be fetched from, too:
-//! [`fetch`] says what is tested then. [`info`] and [`clear_unit`] read what stands in the clear, without the
-//! key. [`seal`] and [`open`] do a single text. What a call turns down it refuses with a [`Refusal`], and leaves
-//! everything that was lent as it was; bytes that a call takes are dropped, so lend `&bytes` to keep them.
+//! way may be accepted ([`Receipt`] says when). [`fetch`] opens one unit of bytes that were not checked, and
+//! says what is tested then. [`info`] and [`clear_unit`] read what stands in the clear, without the
+//! key. [`seal`] and [`open`] do a single text. A call that cannot be done gives a [`Refusal`] and changes
+//! nothing that was lent. A book that a call takes over is dropped with a refusal: lend `&bytes` to keep it.
 //!
 //! # What stands below
 //!
 //! All of this calls a static library, which is proved to do what the ciphers' definition and the book's
 //! say, for all inputs; [`raw`] has its functions one to one. This crate adds memory and types, and is
-//! tested, not proved. The repository's README says what is proved, and docs/SECURITY.md what is promised
-//! and what a user has to see to.
+//! tested, not proved. docs/PROOFS.md says what is proved, and docs/SECURITY.md what is promised and what a
+//! user has to see to.
 //!
 //! # Building
 //!
