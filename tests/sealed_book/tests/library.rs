@@ -37,13 +37,13 @@ const CRATES: [&str; 5] = ["c_blocks", "c_sealing", "c_writer", "c_reader", "c_c
 const CRATES_TXT: &str = "
 # ground
 bits:
-state: bits io # and no more
+state: bits io
 
 c_blocks: state
-c_sealing: bits
+c_sealing:
 c_writer:
 c_reader: state
-c_clear:
+c_clear: # and not report
 report: c_clear
 ";
 
@@ -119,8 +119,7 @@ impl Repository {
         for (name, functions) in FUNCTIONS {
             repository.says(name, &all_proved(name, functions));
         }
-        repository.write("bin/rt", RT);
-        fs::set_permissions(repository.at("bin/rt"), fs::Permissions::from_mode(0o755)).unwrap();
+        repository.write_tool("rt", RT);
         for tool in TOOLS {
             let path = std::env::var_os("PATH").expect("a path");
             let found = std::env::split_paths(&path).map(|folder| folder.join(tool));
@@ -136,6 +135,12 @@ impl Repository {
 
     fn write(&self, path: &str, text: &str) {
         fs::write(self.at(path), text).unwrap();
+    }
+
+    fn write_tool(&self, name: &str, script: &str) {
+        let file = self.at("bin").join(name);
+        fs::write(&file, script).unwrap();
+        fs::set_permissions(file, fs::Permissions::from_mode(0o755)).unwrap();
     }
 
     fn remove(&self, path: &str) {
@@ -172,11 +177,12 @@ impl Repository {
         self.calls()
     }
 
-    /// Runs it, and it fails; what was said.
-    fn fails(&self) -> String {
+    /// Runs it, and it fails for this reason; what was said.
+    fn fails(&self, reason: &str) -> String {
         let output = self.run(&[]).output().expect("it runs");
-        assert_eq!(output.status.code(), Some(1), "{}", said(&output));
-        said(&output)
+        let said = said(&output);
+        assert_eq!(output.status.code(), Some(1), "{reason}: {said}");
+        said
     }
 
     fn calls(&self) -> Vec<String> {
@@ -272,8 +278,8 @@ fn nothing_where_nothing_changed() {
     // a document
     repository.write("crates/README.md", "one");
     repository.write("crates/c_blocks/README.md", "one");
-    assert_eq!(repository.proved(&[]), none);
-    assert_eq!(changed(), before);
+    assert_eq!(repository.proved(&[]), none, "a document");
+    assert_eq!(changed(), before, "a document");
 
     let changes: [(&str, &dyn Fn()); 8] = [
         ("a source", &|| {
@@ -364,7 +370,7 @@ fn the_line_is_that_of_the_archive() {
     repository.write("crates/c_blocks/source", "two");
     repository.says("state", &all_proved("state", 101));
     repository.write("refused", "");
-    assert!(repository.fails().contains("c_blocks is not proved"));
+    repository.fails("a failed proof");
     repository.assert_whole("target/staticlib", "one", &BESIDE);
     assert_eq!(repository.line(), PROVED);
 
@@ -375,6 +381,29 @@ fn the_line_is_that_of_the_archive() {
     assert_eq!(repository.line(), line);
 }
 
+/// Stands in for mv: of several files it moves the first, and fails.
+const MV: &str = r#"#!/bin/sh
+[ $# -gt 2 ] || exec whole_mv "$@"
+for folder; do :; done
+whole_mv "$1" "$folder"
+exit 1
+"#;
+
+/// Where a run is stopped between archive and line, no line of an earlier archive is left.
+#[test]
+fn no_line_of_another_archive() {
+    let repository = Repository::new("another archive");
+    assert_eq!(repository.proved(&[]), once());
+    repository.write("crates/c_blocks/source", "two");
+    fs::rename(repository.at("bin/mv"), repository.at("bin/whole_mv")).unwrap();
+    repository.write_tool("mv", MV);
+    repository.fails("stopped");
+    repository.assert_whole("target/staticlib", "two", &BESIDE[1..]);
+    fs::rename(repository.at("bin/whole_mv"), repository.at("bin/mv")).unwrap();
+    assert_eq!(repository.proved(&[]), once());
+    repository.assert_whole("target/staticlib", "two", &BESIDE);
+}
+
 /// Where the prover ends well and does not say that all is proved, what is missing is named, and the archive
 /// that was there stays.
 #[test]
@@ -383,7 +412,7 @@ fn what_is_not_proved_is_named() {
     assert_eq!(repository.proved(&[]), once());
     repository.write("crates/c_blocks/source", "two");
     let refused = |sentence: &str| {
-        let said = repository.fails();
+        let said = repository.fails(sentence);
         let last = said.lines().last().unwrap_or_default();
         assert!(last.starts_with(sentence), "{said:?} for {sentence:?}");
         assert_eq!(said.matches("library: not proved").count(), 1, "{said}");
@@ -466,11 +495,11 @@ fn another_kit_is_named() {
 
     repository.write("crates/c_blocks/source", "refused");
     repository.write("refused", "");
-    let said = repository.fails();
+    let said = repository.fails("a failed proof");
     assert_eq!(said, format!("{both}{begun}c_blocks is not proved\n{both}"));
     repository.remove("refused");
     repository.says("state", "");
-    let said = repository.fails();
+    let said = repository.fails("no verdict");
     assert!(said.contains("library: not proved: crate state,"), "{said}");
     assert!(said.ends_with(&both), "{said}");
     repository.says("state", &all_proved("state", 1));
