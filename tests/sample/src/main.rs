@@ -1,7 +1,7 @@
-//! Enciphers one block with the proved library and deciphers it again; seals a sentence, opens it again,
-//! and has it refused with one bit changed; writes a book of three units, checks it and holds it to its
-//! receipt, fetches one unit, goes over all, reads what stands in the clear, and has the book refused with two
-//! blocks exchanged.
+//! Writes a book of three units with the proved library, checks it and holds it to its receipt, fetches one
+//! unit, goes over all, reads what stands in the clear, and has the book refused with two blocks exchanged;
+//! seals a sentence, opens it again, and has it refused with one bit changed; enciphers one block and deciphers
+//! it again.
 //! Prints what it did.
 
 use std::error::Error;
@@ -13,61 +13,19 @@ const SUITE: Suite = Suite::SCREAM_10;
 fn main() -> Result<(), Box<dyn Error>> {
     let key: [u8; 16] = std::array::from_fn(|i| i as u8);
     print("key", &key, "16 secret bytes");
-    one_block(&key)?;
+    one_book(&key)?;
     println!();
     one_sentence(&key)?;
     println!();
-    let (bytes, receipt) = write_a_book(&key)?;
-    read_a_book(&key, &bytes, &receipt)?;
-    read_without_key(&bytes)?;
-    change_a_book(&key, bytes)
-}
-
-fn one_block(key: &[u8; 16]) -> Result<(), Refusal> {
-    let [cipher, steps] = SUITE.to_bytes();
-    let tweak: [u8; 16] = std::array::from_fn(|i| 0xF0 + i as u8);
-    let block = *b"A block of text.";
-    print(
-        "tweak",
-        &tweak,
-        "16 public bytes; another tweak makes another cipher",
-    );
-    print("block", &block, "the 16 bytes of \"A block of text.\"");
-
-    let mut text = block;
-    raw::encipher(cipher, steps, key, &tweak, &mut text)?;
-    let about = format!("by {SUITE}, under that key and tweak");
-    print("enciphered", &text, &about);
-    raw::decipher(cipher, steps, key, &tweak, &mut text)?;
-    print(
-        "deciphered",
-        &text,
-        "under the same key and tweak: the block again",
-    );
-    assert_eq!(text, block);
+    one_block(&key)?;
     Ok(())
 }
 
-fn one_sentence(key: &[u8; 16]) -> Result<(), Box<dyn Error>> {
-    let nonce: [u8; 12] = std::array::from_fn(|i| 0xA0 + i as u8);
-    let header = "manual 7, en to de";
-    let text = "Hold the button down.";
-    print("nonce", &nonce, "1 to 15 public bytes, used once");
-    println!("header      {header:?}  public, sealed along");
-    println!("text        {text:?}  secret");
-
-    let mut sealed = seal(SUITE, key, &nonce, header.as_bytes(), text.as_bytes())?;
-    let (ciphertext, tag) = sealed.split_at(text.len());
-    print("sealed", ciphertext, "the ciphertext, and");
-    print("", tag, "the tag");
-
-    let opened = String::from_utf8(open(SUITE, key, &nonce, header.as_bytes(), &sealed)?)?;
-    println!("opened      {opened:?}  the text again");
-    assert_eq!(opened, text);
-
-    sealed[4] ^= 1;
-    let answer = open(SUITE, key, &nonce, header.as_bytes(), &sealed);
-    refused("changed", answer, "one bit of byte 4")
+fn one_book(key: &[u8; 16]) -> Result<(), Box<dyn Error>> {
+    let (bytes, receipt) = write_a_book(key)?;
+    read_a_book(key, &bytes, &receipt)?;
+    read_without_key(&bytes)?;
+    change_a_book(key, bytes)
 }
 
 fn write_a_book(key: &[u8; 16]) -> Result<(Vec<u8>, Receipt), Box<dyn Error>> {
@@ -138,6 +96,53 @@ fn change_a_book(key: &[u8; 16], mut bytes: Vec<u8>) -> Result<(), Box<dyn Error
     one.swap_with_slice(&mut rest[..raw::BLOCK_LEN]);
     let answer = Book::check(key, bytes);
     refused("exchanged", answer, "two blocks of unit 0")
+}
+
+fn one_sentence(key: &[u8; 16]) -> Result<(), Box<dyn Error>> {
+    let nonce: [u8; 12] = std::array::from_fn(|i| 0xA0 + i as u8);
+    let header = "manual 7, en to de";
+    let text = "Hold the button down.";
+    print("nonce", &nonce, "1 to 15 public bytes, used once");
+    println!("header      {header:?}  public, sealed along");
+    println!("text        {text:?}  secret");
+
+    let mut sealed = seal(SUITE, key, &nonce, header.as_bytes(), text.as_bytes())?;
+    let (ciphertext, tag) = sealed.split_at(text.len());
+    print("sealed", ciphertext, "the ciphertext, and");
+    print("", tag, "the tag");
+
+    let opened = String::from_utf8(open(SUITE, key, &nonce, header.as_bytes(), &sealed)?)?;
+    println!("opened      {opened:?}  the text again");
+    assert_eq!(opened, text);
+
+    sealed[4] ^= 1;
+    let answer = open(SUITE, key, &nonce, header.as_bytes(), &sealed);
+    refused("changed", answer, "one bit of byte 4")
+}
+
+fn one_block(key: &[u8; 16]) -> Result<(), Refusal> {
+    let [cipher, steps] = SUITE.to_bytes();
+    let tweak: [u8; 16] = std::array::from_fn(|i| 0xF0 + i as u8);
+    let block = *b"A block of text.";
+    print(
+        "tweak",
+        &tweak,
+        "16 public bytes; another tweak makes another cipher",
+    );
+    print("block", &block, "the 16 bytes of \"A block of text.\"");
+
+    let mut text = block;
+    raw::encipher(cipher, steps, key, &tweak, &mut text)?;
+    let about = format!("by {SUITE}, under the key and that tweak");
+    print("enciphered", &text, &about);
+    raw::decipher(cipher, steps, key, &tweak, &mut text)?;
+    print(
+        "deciphered",
+        &text,
+        "under the same key and tweak: the block again",
+    );
+    assert_eq!(text, block);
+    Ok(())
 }
 
 /// A line about a call that has to be refused.

@@ -1,16 +1,27 @@
 //! The script that proves the library and joins its archive, with a stand-in for the prover: run twice at
-//! once, with nothing changed, with a proof that fails, and with a tool missing.
+//! once, with nothing changed, with a proof that fails, with a tool missing, with another kit, and what it
+//! says of what was proved.
 
 use std::fs;
 use std::os::unix::fs::{symlink, PermissionsExt};
 use std::path::{Path, PathBuf};
 use std::process::{Command, Output, Stdio};
 
-/// Stands in for rt: notes its call and writes the archive of a crate, with a member that says what the
-/// source was; refuses where there is a file `refused`.
+/// Stands in for rt: prints the file `kit` as its version. Notes its other calls and writes the archive of a
+/// crate, with a member that says what the source was; refuses where there is a file `refused`. What it says
+/// of a crate is the file of its name in `says`: this is put into the log, for a crate that others use only
+/// where its stamp is another.
 const RT: &str = r#"#!/bin/sh
+if [ "$1" = version ]; then cat kit; exit; fi
 echo "$1 $2" >>calls
 if [ -e refused ]; then echo "$2 is not proved"; exit 1; fi
+mkdir -p target/log target/stamp
+for used in bits state; do
+    cmp -s "says/$used" "target/stamp/$used" && continue
+    cp "says/$used" "target/log/$used.say"
+    cp "says/$used" "target/stamp/$used"
+done
+cp "says/$2" "target/log/$2.say"
 [ ! -e target/busy ] || { echo "another one runs"; exit 1; }
 touch target/busy
 sleep 0.02
@@ -21,14 +32,48 @@ rm "target/$2.o" target/busy
 
 const CRATES: [&str; 5] = ["c_blocks", "c_sealing", "c_writer", "c_reader", "c_clear"];
 
+/// The crates of the repository: `state` and `bits` are used by those, `report` by none of them, and `io` is
+/// a library of the kit.
+const CRATES_TXT: &str = "
+# ground
+bits:
+state: bits io
+
+c_blocks: state
+c_sealing:
+c_writer:
+c_reader: state
+c_clear: # and not report
+report: c_clear
+";
+
+/// Each crate with its number of functions.
+const FUNCTIONS: [(&str, usize); 8] = [
+    ("bits", 0),
+    ("state", 1),
+    ("c_blocks", 2),
+    ("c_sealing", 4),
+    ("c_writer", 8),
+    ("c_reader", 16),
+    ("c_clear", 32),
+    ("report", 64),
+];
+
+/// The line on these: the functions of all but `report`.
+const PROVED: &str = "proved: 63 functions in 7 crates, 0 failed\n";
+
+const KIT: &str = "kit 1 logic 11";
+
 /// What the script needs of the system.
-const TOOLS: [&str; 17] = [
+const TOOLS: [&str; 19] = [
     "sh",
     "dirname",
     "find",
     "sort",
     "sha256sum",
     "flock",
+    "awk",
+    "grep",
     "mkdir",
     "mktemp",
     "cat",
@@ -41,6 +86,14 @@ const TOOLS: [&str; 17] = [
     "ar",
     "env",
 ];
+
+/// What the prover says of a crate whose functions are all proved.
+fn all_proved(name: &str, functions: usize) -> String {
+    let lines: String = (0..functions)
+        .map(|k| format!("fn {name}::f{k}: proved\n"))
+        .collect();
+    format!("{lines}library std: checked=0\nlogic=proved functions={functions} sum=09\n")
+}
 
 /// A repository with the script, one source and the stand-in.
 struct Repository {
@@ -56,12 +109,17 @@ impl Repository {
         let repository = Repository { root };
         fs::create_dir_all(repository.at("crates/c_blocks")).unwrap();
         fs::create_dir_all(repository.at("bin")).unwrap();
+        fs::create_dir_all(repository.at("says")).unwrap();
         let script = Path::new(env!("CARGO_MANIFEST_DIR")).join("../../library");
         fs::copy(script, repository.at("library")).unwrap();
         repository.write("crates/c_blocks/source", "one");
-        repository.write("crates.txt", "c_blocks:\n");
-        repository.write("bin/rt", RT);
-        fs::set_permissions(repository.at("bin/rt"), fs::Permissions::from_mode(0o755)).unwrap();
+        repository.write("crates.txt", CRATES_TXT);
+        repository.write("rattle-version", &format!("{KIT}\n"));
+        repository.write("kit", &format!("{KIT}\n"));
+        for (name, functions) in FUNCTIONS {
+            repository.says(name, &all_proved(name, functions));
+        }
+        repository.write_tool("rt", RT);
         for tool in TOOLS {
             let path = std::env::var_os("PATH").expect("a path");
             let found = std::env::split_paths(&path).map(|folder| folder.join(tool));
@@ -77,6 +135,27 @@ impl Repository {
 
     fn write(&self, path: &str, text: &str) {
         fs::write(self.at(path), text).unwrap();
+    }
+
+    fn write_tool(&self, name: &str, script: &str) {
+        let file = self.at("bin").join(name);
+        fs::write(&file, script).unwrap();
+        fs::set_permissions(file, fs::Permissions::from_mode(0o755)).unwrap();
+    }
+
+    fn remove(&self, path: &str) {
+        fs::remove_file(self.at(path)).unwrap();
+    }
+
+    /// What the prover is to say of a crate.
+    fn says(&self, name: &str, text: &str) {
+        self.write(&format!("says/{name}"), text);
+    }
+
+    /// The line beside the archive.
+    fn line(&self) -> String {
+        let line = self.at("target/staticlib/libsealed_book.proved");
+        fs::read_to_string(line).expect("the line beside the archive")
     }
 
     /// A run, from the folder above, with only the tools in `bin`.
@@ -96,6 +175,14 @@ impl Repository {
         let output = self.run(arguments).output().expect("it runs");
         assert!(output.status.success(), "{}", said(&output));
         self.calls()
+    }
+
+    /// Runs it, and it fails for this reason; what was said.
+    fn fails(&self, reason: &str) -> String {
+        let output = self.run(&[]).output().expect("it runs");
+        let said = said(&output);
+        assert_eq!(output.status.code(), Some(1), "{reason}: {said}");
+        said
     }
 
     fn calls(&self) -> Vec<String> {
@@ -118,7 +205,8 @@ impl Repository {
         let mut there = names(&self.at(folder));
         there.retain(|name| name != "libsealed_book.a");
         assert_eq!(there, besides);
-        assert_eq!(names(&self.at("target")), ["library.lock", "staticlib"]);
+        let rest = ["library.lock", "log", "stamp", "staticlib"];
+        assert_eq!(names(&self.at("target")), rest);
     }
 }
 
@@ -143,7 +231,8 @@ fn once() -> Vec<String> {
     CRATES.map(|name| format!("staticlib {name}")).to_vec()
 }
 
-const SUM: [&str; 1] = ["libsealed_book.sum"];
+/// What stands beside the archive.
+const BESIDE: [&str; 2] = ["libsealed_book.proved", "libsealed_book.sum"];
 
 #[test]
 fn at_once() {
@@ -161,7 +250,7 @@ fn at_once() {
             assert!(output.status.success(), "{}", said(&output));
         }
         assert_eq!(repository.calls(), once());
-        repository.assert_whole("target/staticlib", source, &SUM);
+        repository.assert_whole("target/staticlib", source, &BESIDE);
         repository.assert_whole("a folder", source, &[]);
         repository.assert_whole("absolute", source, &[]);
     }
@@ -186,27 +275,40 @@ fn nothing_where_nothing_changed() {
     assert_eq!(repository.proved(&[]), none);
     assert_eq!(changed(), before);
 
-    let changes: [(&str, &dyn Fn()); 6] = [
+    // a document
+    repository.write("crates/README.md", "one");
+    repository.write("crates/c_blocks/README.md", "one");
+    assert_eq!(repository.proved(&[]), none, "a document");
+    assert_eq!(changed(), before, "a document");
+
+    let changes: [(&str, &dyn Fn()); 8] = [
         ("a source", &|| {
             repository.write("crates/c_blocks/source", "two")
         }),
         ("one more", &|| repository.write("crates/c_blocks/more", "")),
-        ("one less", &|| {
-            fs::remove_file(repository.at("crates/c_blocks/more")).unwrap()
+        ("one less", &|| repository.remove("crates/c_blocks/more")),
+        ("crates.txt", &|| {
+            repository.write("crates.txt", &format!("{CRATES_TXT}#"))
         }),
-        ("crates.txt", &|| repository.write("crates.txt", "")),
         ("another archive", &|| {
             repository.write("target/staticlib/libsealed_book.a", "!<arch>\n")
         }),
         ("no archive", &|| {
-            fs::remove_file(repository.at("target/staticlib/libsealed_book.a")).unwrap()
+            repository.remove("target/staticlib/libsealed_book.a")
+        }),
+        ("another line", &|| {
+            repository.write("target/staticlib/libsealed_book.proved", "proved\n")
+        }),
+        ("no line", &|| {
+            repository.remove("target/staticlib/libsealed_book.proved")
         }),
     ];
     for (name, change) in changes {
         change();
         assert_eq!(repository.proved(&[]), once(), "{name}");
         assert_eq!(repository.proved(&[]), none, "{name}");
-        repository.assert_whole("target/staticlib", "two", &SUM);
+        repository.assert_whole("target/staticlib", "two", &BESIDE);
+        assert_eq!(repository.line(), PROVED, "{name}");
     }
 }
 
@@ -220,10 +322,10 @@ fn a_failed_proof_keeps_the_archive() {
         let output = repository.run(&["failed/out"]).output().expect("it runs");
         assert_eq!(output.status.code(), Some(1));
         assert!(said(&output).contains("c_blocks is not proved"));
-        repository.assert_whole("target/staticlib", "one", &SUM);
+        repository.assert_whole("target/staticlib", "one", &BESIDE);
         repository.assert_whole("out", "one", &[]);
     }
-    fs::remove_file(repository.at("refused")).unwrap();
+    repository.remove("refused");
     assert_eq!(repository.proved(&["failed/out"]), once());
     repository.assert_whole("out", "two", &[]);
 }
@@ -248,6 +350,162 @@ fn missing_tools_are_named() {
         assert_eq!(said(&output), format!("{tool} not found\n"));
         fs::rename(repository.at("away"), repository.at("bin").join(tool)).unwrap();
         assert_eq!(repository.proved(&[]), once());
-        repository.assert_whole("target/staticlib", tool, &SUM);
+        repository.assert_whole("target/staticlib", tool, &BESIDE);
     }
+}
+
+/// The line has the functions of the crates that the archive is made of, and stays and goes with it.
+#[test]
+fn the_line_is_that_of_the_archive() {
+    let repository = Repository::new("line");
+    // what was said of others does not count
+    fs::create_dir_all(repository.at("target/log")).unwrap();
+    for name in ["report", "io"] {
+        repository.write(&format!("target/log/{name}.say"), &all_proved(name, 64));
+    }
+    assert_eq!(repository.proved(&[]), once());
+    repository.assert_whole("target/staticlib", "one", &BESIDE);
+    assert_eq!(repository.line(), PROVED);
+
+    repository.write("crates/c_blocks/source", "two");
+    repository.says("state", &all_proved("state", 101));
+    repository.write("refused", "");
+    repository.fails("a failed proof");
+    repository.assert_whole("target/staticlib", "one", &BESIDE);
+    assert_eq!(repository.line(), PROVED);
+
+    repository.remove("refused");
+    assert_eq!(repository.proved(&[]), once());
+    repository.assert_whole("target/staticlib", "two", &BESIDE);
+    let line = "proved: 163 functions in 7 crates, 0 failed\n";
+    assert_eq!(repository.line(), line);
+}
+
+/// Stands in for mv: of several files it moves the first, and fails.
+const MV: &str = r#"#!/bin/sh
+[ $# -gt 2 ] || exec whole_mv "$@"
+for folder; do :; done
+whole_mv "$1" "$folder"
+exit 1
+"#;
+
+/// Where a run is stopped between archive and line, no line of an earlier archive is left.
+#[test]
+fn no_line_of_another_archive() {
+    let repository = Repository::new("another archive");
+    assert_eq!(repository.proved(&[]), once());
+    repository.write("crates/c_blocks/source", "two");
+    fs::rename(repository.at("bin/mv"), repository.at("bin/whole_mv")).unwrap();
+    repository.write_tool("mv", MV);
+    repository.fails("stopped");
+    repository.assert_whole("target/staticlib", "two", &BESIDE[1..]);
+    fs::rename(repository.at("bin/whole_mv"), repository.at("bin/mv")).unwrap();
+    assert_eq!(repository.proved(&[]), once());
+    repository.assert_whole("target/staticlib", "two", &BESIDE);
+}
+
+/// Where the prover ends well and does not say that all is proved, what is missing is named, and the archive
+/// that was there stays.
+#[test]
+fn what_is_not_proved_is_named() {
+    let repository = Repository::new("not proved");
+    assert_eq!(repository.proved(&[]), once());
+    repository.write("crates/c_blocks/source", "two");
+    let refused = |sentence: &str| {
+        let said = repository.fails(sentence);
+        let last = said.lines().last().unwrap_or_default();
+        assert!(last.starts_with(sentence), "{said:?} for {sentence:?}");
+        assert_eq!(said.matches("library: not proved").count(), 1, "{said}");
+        repository.assert_whole("target/staticlib", "one", &BESIDE);
+        assert_eq!(repository.line(), PROVED);
+    };
+    for (name, functions) in FUNCTIONS.into_iter().take(3) {
+        let proved = all_proved(name, functions);
+        let no_verdict = format!("library: not proved: crate {name},");
+        for line in ["g: not proved", "g: no proof: expected `g-spec`"] {
+            let line = format!("fn {name}::{line}");
+            repository.says(name, &format!("{line}\n{proved}"));
+            refused(&format!("library: not proved: {line}"));
+        }
+        for text in ["", &proved.replace("=proved", "=not-proved")] {
+            repository.says(name, text);
+            refused(&no_verdict);
+        }
+        repository.says(name, &proved);
+    }
+    // used, and the prover says nothing of it
+    let used = CRATES_TXT.replace("c_writer:", "c_writer: report");
+    repository.write("crates.txt", &used);
+    refused("library: not proved: crate report,");
+
+    repository.write("crates.txt", CRATES_TXT);
+    assert_eq!(repository.proved(&[]), once());
+    repository.assert_whole("target/staticlib", "two", &BESIDE);
+}
+
+/// Where what the prover said is lost, and its stamps are not, the crates are proved again.
+#[test]
+fn what_was_said_is_lost() {
+    let repository = Repository::new("lost");
+    let losses: [(&str, &dyn Fn()); 3] = [
+        ("nothing", &|| ()),
+        ("all", &|| {
+            fs::remove_dir_all(repository.at("target/log")).unwrap()
+        }),
+        ("the verdict", &|| {
+            repository.write("target/log/state.say", "fn state::f0: proved\n")
+        }),
+    ];
+    for (name, lose) in losses {
+        lose();
+        repository.write("crates/c_blocks/source", name);
+        assert_eq!(repository.proved(&[]), once(), "{name}");
+        assert_eq!(repository.line(), PROVED, "{name}");
+    }
+}
+
+/// The lines on two kits.
+fn kits(pinned: &str, here: &str) -> String {
+    format!(
+        "library: the kit of these proofs is {pinned}; the kit here is {here}.\n\
+        Everything is proved anew by the kit that is here, so that nothing unproved is built, \
+        but a proof may fail.\n"
+    )
+}
+
+/// Another kit than that of rattle-version proves; both are named, and once more behind what fails.
+#[test]
+fn another_kit_is_named() {
+    const ANOTHER: &str = "kit 2 logic 22";
+    let repository = Repository::new("another kit");
+    let passes = |source: &str| {
+        repository.write("crates/c_blocks/source", source);
+        let output = repository.run(&[]).output().expect("it runs");
+        assert!(output.status.success(), "{}", said(&output));
+        repository.assert_whole("target/staticlib", source, &BESIDE);
+        said(&output)
+    };
+    let begun = passes("the same");
+    assert!(!begun.contains("kit"), "{begun}");
+
+    repository.write("kit", &format!("{ANOTHER}\n"));
+    assert_eq!(passes("the same"), "", "nothing is proved");
+    let both = kits(KIT, ANOTHER);
+    assert_eq!(passes("another"), format!("{both}{begun}"));
+
+    repository.write("crates/c_blocks/source", "refused");
+    repository.write("refused", "");
+    let said = repository.fails("a failed proof");
+    assert_eq!(said, format!("{both}{begun}c_blocks is not proved\n{both}"));
+    repository.remove("refused");
+    repository.says("state", "");
+    let said = repository.fails("no verdict");
+    assert!(said.contains("library: not proved: crate state,"), "{said}");
+    assert!(said.ends_with(&both), "{said}");
+    repository.says("state", &all_proved("state", 1));
+
+    repository.remove("rattle-version");
+    let unknown = "unknown, for the file rattle-version is missing";
+    let both = kits(unknown, ANOTHER);
+    assert_eq!(passes("no file"), format!("{both}{begun}"));
 }
