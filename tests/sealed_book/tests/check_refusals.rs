@@ -2,12 +2,16 @@
 
 mod common;
 
+use std::fs;
+use std::path::Path;
+use std::process::Command;
+
 use common::causes::{self, first_is_given, sets, Cause as _};
 use common::checking::{accepts, check_gives, checked, refuses, Answer};
 use common::parts::{close_fields, random_book, unit_fields, written, Parts};
 use common::spoiling::{bad_ciphertext, bad_codes, bad_text, spoil, text, LONG_TEXTS};
 use common::writing::unit;
-use common::{codes_with_each_byte, UNLISTED};
+use common::{codes_with_each_byte, hex, UNLISTED};
 use reference::book::Book;
 use reference::cipher::{listed, SUITES};
 use reference::random::Random;
@@ -160,12 +164,17 @@ fn spoiled(random: &mut Random, book: &Book, before: &Parts, set: &[Cause]) -> (
     (key, fields.concat())
 }
 
-/// A case with these causes behind no unit or some.
-fn case(random: &mut Random, set: &[Cause], name: &str) -> Answer {
+/// Key and bytes with these causes behind no unit or some.
+fn random_case(random: &mut Random, set: &[Cause]) -> (Vec<u8>, Vec<u8>) {
     let (suite, units) = (random.one_of(&SUITES), random.below(3));
     let book = random_book(random, suite, units, 10);
     let before = Parts::of(&book);
-    let (key, book) = spoiled(random, &book, &before, set);
+    spoiled(random, &book, &before, set)
+}
+
+/// Such a case, checked.
+fn case(random: &mut Random, set: &[Cause], name: &str) -> Answer {
+    let (key, book) = random_case(random, set);
     checked(&key, &book, name)
 }
 
@@ -187,6 +196,36 @@ fn each_cause_and_each_two() {
     sets.retain(|set| set.len() <= 2);
     assert_eq!(sets.len(), 1 + 13 + 13 * 12 / 2);
     first_is_given(SEED + 1, &sets, 30, case);
+}
+
+/// A case as a line for the reader in Python: the key, the book and the answer.
+fn line(key: &[u8], book: &[u8], answer: Answer) -> String {
+    let answer = match answer {
+        Ok((units, calls)) => format!("ok:{units}:{calls}"),
+        Err(number) => format!("refused:{number}"),
+    };
+    format!("{} {} {answer}\n", hex(key), hex(book))
+}
+
+/// The reader that was written from docs/FORMAT.md and docs/REFUSALS.md alone gives the same answers.
+#[test]
+fn a_reader_from_the_page() {
+    let mut sets = sets(&CAUSES);
+    sets.retain(|set| set.len() <= 2);
+    let mut lines = String::new();
+    first_is_given(SEED + 3, &sets, 2, |random, set, name| {
+        let (key, book) = random_case(random, set);
+        let answer = checked(&key, &book, name);
+        lines += &line(&key, &book, answer);
+        answer
+    });
+    let cases = Path::new(env!("CARGO_TARGET_TMPDIR")).join("cases.txt");
+    fs::write(&cases, &lines).expect("the cases are written");
+    let reader = Path::new(env!("CARGO_MANIFEST_DIR")).join("../format/reader.py");
+    let run = Command::new("python3").arg(reader).arg(&cases).output();
+    let said = run.expect("python3 runs").stdout;
+    let expected = format!("{} cases, 0 differ\n", lines.lines().count());
+    assert_eq!(String::from_utf8_lossy(&said), expected);
 }
 
 /// Behind 65,535 units: 13 before all but a malformed head.

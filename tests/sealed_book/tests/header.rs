@@ -1,16 +1,15 @@
 //! The C header: a client in C is compiled against it, linked with the library, and held to the reference.
 
+mod common;
+
 use std::env;
 use std::path::PathBuf;
 use std::process::Command;
 
+use common::hex;
 use reference::sealing::{header_limit, text_limit};
 use reference::writer::{start, Answer, Writer};
 use sealed_book::{raw, Refusal};
-
-fn hex(bytes: &[u8]) -> String {
-    bytes.iter().map(|byte| format!("{byte:02X}")).collect()
-}
 
 /// What the client says about version, lengths and limits: those of the crate for Rust, and of sealing the
 /// reference's.

@@ -49,6 +49,11 @@ pub fn codes_with_each_byte() -> impl Iterator<Item = (u8, [u8; 4])> {
     })
 }
 
+/// Bytes in hexadecimal.
+pub fn hex(bytes: &[u8]) -> String {
+    bytes.iter().map(|byte| format!("{byte:02X}")).collect()
+}
+
 /// Null for a slice of length 0.
 pub fn pointer(bytes: &[u8]) -> *const u8 {
     match bytes {
