@@ -13,8 +13,8 @@ use std::process::{Command, Output};
 use std::sync::OnceLock;
 
 use document::{
-    assert_edits_fail, assert_none, code, date, parts_of, read, rising_dates, root, Block,
-    Document, Fence, Heading, Kind, Part, Placed, Row, Source, WHOLE,
+    all, assert_edits_fail, assert_none, code, date, edits, one, parts_of, read, rising_dates,
+    root, Block, Document, Fence, Heading, Kind, Part, Placed, Row, Source, WHOLE,
 };
 
 /// Folders of the repository that a path in a document begins with.
@@ -312,11 +312,8 @@ fn misplaced(document: &Document, known: &Listed, rows: &[&Listed]) -> Option<St
 }
 
 /// The crates that are not in the drawing under "The layers".
-fn not_drawn(architecture: &Document, list: &Source) -> Vec<String> {
-    let section = match architecture.under("## The layers") {
-        Ok(section) => section,
-        Err(failure) => return vec![failure],
-    };
+fn not_drawn(architecture: &Document, list: &Source) -> Result<Vec<String>, String> {
+    let section = architecture.under("## The layers")?;
     let fences = architecture.fences.iter();
     let drawing: BTreeSet<&str> = fences
         .filter(|fence| section.contains(&fence.line))
@@ -324,10 +321,10 @@ fn not_drawn(architecture: &Document, list: &Source) -> Vec<String> {
         .flat_map(|line| line.split(|c: char| !c.is_alphanumeric() && c != '_'))
         .collect();
     let listed = listed_crates(list).into_iter();
-    listed
+    let failures = listed
         .filter(|known| !drawing.contains(known.name.as_str()))
-        .map(|known| architecture.at(section.start, format!("`{}` is not drawn", known.name)))
-        .collect()
+        .map(|known| architecture.at(section.start, format!("`{}` is not drawn", known.name)));
+    Ok(failures.collect())
 }
 
 /// The README of the crates has a row for each, and ARCHITECTURE draws each.
@@ -337,7 +334,7 @@ fn every_crate() {
     assert!(listed_crates(&list).len() > 40, "crates were found");
     let rows = crate_rows(&Document::read("crates/README.md"), &list);
     let drawing = not_drawn(&Document::read("docs/ARCHITECTURE.md"), &list);
-    assert_none(&[rows, drawing].concat());
+    assert_none(&[rows, all(drawing)].concat());
 }
 
 /// No document names a registry, or speaks of how it was made.
@@ -878,8 +875,7 @@ fn wrong_example(readme: &Document, library: &Source) -> Result<(), String> {
 #[test]
 fn code_in_rust() {
     let library = Source::read("rust/src/lib.rs");
-    let answer = wrong_example(&Document::read("README.md"), &library);
-    assert_none(&Vec::from_iter(answer.err()));
+    assert_none(&one(wrong_example(&Document::read("README.md"), &library)));
 }
 
 /// A program in C with this body of its main, compiled as `name`, linked with the library, and run.
@@ -944,8 +940,7 @@ fn wrong_program(readme: &Document) -> Result<(), String> {
 
 #[test]
 fn code_in_c() {
-    let answer = wrong_program(&Document::read("README.md"));
-    assert_none(&Vec::from_iter(answer.err()));
+    assert_none(&one(wrong_program(&Document::read("README.md"))));
 }
 
 /// The tests above on small documents: each finds what is broken there.
@@ -978,34 +973,19 @@ mod small_documents {
         assert_edits_fail(
             |source| wrong_landings(&Document::parse(source)),
             &Source::new("small.md", text),
-            &[
-                ("## 2.", "## 3.", 3, second),
-                ("## 2. The", "## 2 The", 3, second),
-                ("## 2. The second", "## 2. ", 3, second),
-                ("## 1.", "## 2.", 11, first),
-                ("2026-11-16. ", "", 3, undated),
-                ("2026-11-16.", "2026-11-16", 3, undated),
-                ("2026-11-16.", "2026-13-16.", 3, undated),
-                ("2026-11-16.", "2026-11-1x.", 3, undated),
-                (
-                    "2026-11-16.",
-                    "2026-11-15.",
-                    13,
-                    "2026-11-16 is after 2026-11-15 above it",
-                ),
-                (
-                    "| | lines",
-                    "| crate | lines",
-                    15,
-                    "only the newest landing has",
-                ),
-                (
-                    "# Landings\n\n",
-                    "# Landings\n| crate |\n",
-                    2,
-                    "only the newest landing has",
-                ),
-            ],
+            edits! {
+                "## 2." => "## 3.", 3: second;
+                "## 2. The" => "## 2 The", 3: second;
+                "## 2. The second" => "## 2. ", 3: second;
+                "## 1." => "## 2.", 11: first;
+                "2026-11-16. " => "", 3: undated;
+                "2026-11-16." => "2026-11-16", 3: undated;
+                "2026-11-16." => "2026-13-16.", 3: undated;
+                "2026-11-16." => "2026-11-1x.", 3: undated;
+                "2026-11-16." => "2026-11-15.", 13: "2026-11-16 is after 2026-11-15 above it";
+                "| | lines" => "| crate | lines", 15: "only the newest landing has";
+                "# Landings\n\n" => "# Landings\n| crate |\n", 2: "only the newest landing has";
+            },
         );
         let none = Document::parse(&Source::new("small.md", "# Landings"));
         assert_eq!(wrong_landings(&none), ["small.md:1: has no landing"]);
@@ -1017,7 +997,9 @@ mod small_documents {
         assert_edits_fail(
             |source| Vec::from_iter(too_many_words(&Document::parse(source))),
             &Source::new("small.md", &text),
-            &[("last", "last one", 1, "901 words, of 900 at most")],
+            edits! {
+                "last" => "last one", 1: "901 words, of 900 at most";
+            },
         );
     }
 
@@ -1032,13 +1014,13 @@ mod small_documents {
         assert_edits_fail(
             |source| long_lines(&Document::parse(source)),
             &Source::new("small.md", &text),
-            &[
-                ("# Heading", &format!("# {}", &long[4..]), 1, what),
-                ("\nä", "\nää", 2, what),
-                ("- item", &format!("- {}", &long[4..]), 4, what),
-                ("  ä", "   ä", 5, what),
-                ("| ä", "+ ä", 7, "165 characters, of 160 at most"),
-            ],
+            edits! {
+                "# Heading" => &format!("# {}", &long[4..]), 1: what;
+                "\nä" => "\nää", 2: what;
+                "- item" => &format!("- {}", &long[4..]), 4: what;
+                "  ä" => "   ä", 5: what;
+                "| ä" => "+ ä", 7: "165 characters, of 160 at most";
+            },
         );
     }
 
@@ -1076,22 +1058,17 @@ c_book: bits state
         assert_edits_fail(
             |source| crate_rows(&Document::parse(source), &list),
             &Source::new("small.md", text),
-            &[
-                ("| `bits` | bits |\n", "", 1, "`bits` has no row"),
-                ("| crate |", "| crates |", 1, "`state` has no row"),
-                ("`bits` |", "bits |", 7, unsaid),
-                ("| bits |", "| |", 7, unsaid),
-                ("(state)", "(bits)", 8, unsaid),
-                ("`bits`", "`bit`", 7, "`bit` is no crate"),
-                ("`c_book`", "`state`", 14, "`state` has a row already"),
-                ("## For C", "## C", 14, "`c_book` is not under \"For C\""),
-                (
-                    "| `bits` | bits |\n| [`state`](state) |",
-                    "| `state` | rows |\n| `bits` |",
-                    7,
-                    "`state` stands where `bits` is due",
-                ),
-            ],
+            edits! {
+                "| `bits` | bits |\n" => "", 1: "`bits` has no row";
+                "| crate |" => "| crates |", 1: "`state` has no row";
+                "`bits` |" => "bits |", 7: unsaid;
+                "| bits |" => "| |", 7: unsaid;
+                "(state)" => "(bits)", 8: unsaid;
+                "`bits`" => "`bit`", 7: "`bit` is no crate";
+                "`c_book`" => "`state`", 14: "`state` has a row already";
+                "## For C" => "## C", 14: "`c_book` is not under \"For C\"";
+                "| `bits` | bits |\n| [`state`](state) |" => "| `state` | rows |\n| `bits` |", 7: "`state` stands where `bits` is due";
+            },
         );
     }
 
@@ -1101,23 +1078,13 @@ c_book: bits state
         let text =
             "# A\n\n## The layers\n\n```text\n| c_book, bits |\n```\n\n## B\n\n```text\nx\n```\n";
         assert_edits_fail(
-            |source| not_drawn(&Document::parse(source), &list),
+            |source| all(not_drawn(&Document::parse(source), &list)),
             &Source::new("small.md", text),
-            &[
-                ("bits", "bit", 3, "`bits` is not drawn"),
-                (
-                    "c_book, bits |\n```\n\n## B\n\n```text",
-                    "bits |\n```\n\n## B\n\n```text\nc_book",
-                    3,
-                    "`c_book` is not drawn",
-                ),
-                (
-                    "## The layers",
-                    "## Layers",
-                    1,
-                    "has no heading \"## The layers\"",
-                ),
-            ],
+            edits! {
+                "bits" => "bit", 3: "`bits` is not drawn";
+                "c_book, bits |\n```\n\n## B\n\n```text" => "bits |\n```\n\n## B\n\n```text\nc_book", 3: "`c_book` is not drawn";
+                "## The layers" => "## Layers", 1: "has no heading \"## The layers\"";
+            },
         );
     }
 
@@ -1145,40 +1112,15 @@ in [crates/state/specs/Rows.antt](../crates/state/specs/Rows.antt), a paragraph.
                 failures
             },
             &Source::new("docs/small.md", text),
-            &[
-                (
-                    "`Block`",
-                    "`Blok`",
-                    1,
-                    &lost("Blok", "state/specs/Block.antt"),
-                ),
-                ("`Rows`", "`Row`", 2, &lost("Row", "state/specs/Rows.antt")),
-                (
-                    "`addRows`",
-                    "`column`",
-                    2,
-                    &lost("column", "state/specs/Rows.antt"),
-                ),
-                (
-                    "`rows`",
-                    "`Unheld`",
-                    5,
-                    &lost("Unheld", "state/specs/Block.antt"),
-                ),
-                ("`column`", "`row`", 9, &lost("row", "sbox/specs/Sbox.antt")),
-                (
-                    "[state/Block](",
-                    "[state/Rows](",
-                    1,
-                    "[state/Rows] leads to crates/state/specs/Block.antt",
-                ),
-                (
-                    "[sbox/specs",
-                    "[lbox/specs",
-                    9,
-                    "[lbox/specs/Sbox.antt] leads to crates/sbox/specs/Sbox.antt",
-                ),
-            ],
+            edits! {
+                "`Block`" => "`Blok`", 1: &lost("Blok", "state/specs/Block.antt");
+                "`Rows`" => "`Row`", 2: &lost("Row", "state/specs/Rows.antt");
+                "`addRows`" => "`column`", 2: &lost("column", "state/specs/Rows.antt");
+                "`rows`" => "`Unheld`", 5: &lost("Unheld", "state/specs/Block.antt");
+                "`column`" => "`row`", 9: &lost("row", "sbox/specs/Sbox.antt");
+                "[state/Block](" => "[state/Rows](", 1: "[state/Rows] leads to crates/state/specs/Block.antt";
+                "[sbox/specs" => "[lbox/specs", 9: "[lbox/specs/Sbox.antt] leads to crates/sbox/specs/Sbox.antt";
+            },
         );
     }
 
@@ -1209,22 +1151,17 @@ not in the file
         assert_edits_fail(
             |source| misquotes(&Document::parse(source), file),
             &Source::new("small.md", text),
-            &[
-                ("f : N", "f  : N", 4, what),
-                ("    → N", "  → N", 5, what),
-                ("\n\n  f = g", "\n  f = g", 6, what),
-                ("    → N\n", "    → N\n    → N\n", 6, what),
-                ("f = g\n  ```", "f = h\n  ```", 7, what),
-                (
-                    "    where\n",
-                    "    where\n    more\n",
-                    13,
-                    "\"rattle a/B.antt\" does not go on",
-                ),
-                ("antt a/B", "antt a/C", 3, "\"antt a/C.antt\": no such file"),
-                ("antt a/B.antt", "antt", 3, "\"antt\": no such file"),
-                ("  f = g\n    where\n", "\n", 10, "quotes nothing"),
-            ],
+            edits! {
+                "f : N" => "f  : N", 4: what;
+                "    → N" => "  → N", 5: what;
+                "\n\n  f = g" => "\n  f = g", 6: what;
+                "    → N\n" => "    → N\n    → N\n", 6: what;
+                "f = g\n  ```" => "f = h\n  ```", 7: what;
+                "    where\n" => "    where\n    more\n", 13: "\"rattle a/B.antt\" does not go on";
+                "antt a/B" => "antt a/C", 3: "\"antt a/C.antt\": no such file";
+                "antt a/B.antt" => "antt", 3: "\"antt\": no such file";
+                "  f = g\n    where\n" => "\n", 10: "quotes nothing";
+            },
         );
         let none = Document::parse(&Source::new("small.md", "```text\nx\n```\n"));
         assert_eq!(misquotes(&none, file), ["small.md:1: quotes no file"]);
@@ -1252,30 +1189,15 @@ pub struct Book;
         let text =
             "# Books\n\n```rust\nuse books::Book;\n\nfor i in 0..2 {\n    Book::new(i);\n}\n```\n";
         assert_edits_fail(
-            |source| Vec::from_iter(wrong_example(&Document::parse(source), &library).err()),
+            |source| one(wrong_example(&Document::parse(source), &library)),
             &Source::new("small.md", text),
-            &[
-                (
-                    "0..2",
-                    "0..3",
-                    6,
-                    "is not line 7 of lib.rs: for i in 0..2 {",
-                ),
-                ("\n\nfor", "\nfor", 5, "is not line 5 of lib.rs: "),
-                (
-                    "    Book",
-                    "   Book",
-                    7,
-                    "is not line 8 of lib.rs:     Book::new(i);",
-                ),
-                (
-                    "}\n```",
-                    "}\nf();\n```",
-                    9,
-                    "the example has ended before this",
-                ),
-                ("```rust", "```", 1, "has 0 of one block of \"rust\""),
-            ],
+            edits! {
+                "0..2" => "0..3", 6: "is not line 7 of lib.rs: for i in 0..2 {";
+                "\n\nfor" => "\nfor", 5: "is not line 5 of lib.rs: ";
+                "    Book" => "   Book", 7: "is not line 8 of lib.rs:     Book::new(i);";
+                "}\n```" => "}\nf();\n```", 9: "the example has ended before this";
+                "```rust" => "```", 1: "0 in place of one block of \"rust\"";
+            },
         );
         let shorter = Document::parse(&Source::new("small.md", &text.replace("}\n", "")));
         let expected = "lib.rs:10: this line of the example is not in the README";
@@ -1297,26 +1219,16 @@ if (sb_info(book, sizeof book, &cipher, &steps, &number) == 0)
 ";
         let uncompiled = "does not compile\n";
         assert_edits_fail(
-            |source| Vec::from_iter(wrong_program(&Document::parse(source)).err()),
+            |source| one(wrong_program(&Document::parse(source))),
             &Source::new("small.md", text),
-            &[
-                ("sb_info", "sb_no_such_call", 3, uncompiled),
-                ("uint64_t number", "uint64_t unused, number", 3, uncompiled),
-                ("== 0", "== 14", 3, "says [\"book 7\"] and prints []"),
-                (
-                    "prints: book 7",
-                    "prints: book 8",
-                    3,
-                    "says [\"book 8\"] and prints [\"book 7\"]",
-                ),
-                (
-                    "    printf",
-                    "    return 3;\nelse\n    printf",
-                    3,
-                    "ends with exit status: 3",
-                ),
-                ("```c", "```", 1, "has 0 of one block of \"c\""),
-            ],
+            edits! {
+                "sb_info" => "sb_no_such_call", 3: uncompiled;
+                "uint64_t number" => "uint64_t unused, number", 3: uncompiled;
+                "== 0" => "== 14", 3: "says [\"book 7\"] and prints []";
+                "prints: book 7" => "prints: book 8", 3: "says [\"book 8\"] and prints [\"book 7\"]";
+                "    printf" => "    return 3;\nelse\n    printf", 3: "ends with exit status: 3";
+                "```c" => "```", 1: "0 in place of one block of \"c\"";
+            },
         );
     }
 }

@@ -22,9 +22,27 @@ pub fn assert_none(failures: &[String]) {
     assert!(failures.is_empty(), "\n{}\n", failures.join("\n"));
 }
 
+/// The one place that fails, if it does.
+pub fn one<T>(answer: Result<T, String>) -> Vec<String> {
+    Vec::from_iter(answer.err())
+}
+
+/// All places that fail; or the one without which the others cannot be looked for.
+pub fn all(failures: Result<Vec<String>, String>) -> Vec<String> {
+    failures.unwrap_or_else(|failure| vec![failure])
+}
+
 /// An edit of a text that a test has to find: what stands there first, what is put in its place, and the line and the
 /// words, from the first on, that are then told.
 pub type Edit<'a> = (&'a str, &'a str, usize, &'a str);
+
+/// Edits, one a line.
+macro_rules! edits {
+    ($($from:expr => $to:expr, $line:literal: $what:expr;)*) => {
+        &[$(($from, $to, $line, $what)),*]
+    };
+}
+pub(crate) use edits;
 
 /// The test of a test: the text passes, and fails with each edit.
 pub fn assert_edits_fail(
@@ -335,7 +353,7 @@ impl Document {
     ) -> Result<&'a T, String> {
         match found {
             [only] => Ok(only),
-            _ => Err(self.at(line, format!("has {} of one {}", found.len(), what()))),
+            _ => Err(self.at(line, format!("{} in place of one {}", found.len(), what()))),
         }
     }
 }
