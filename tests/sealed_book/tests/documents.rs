@@ -558,7 +558,8 @@ impl Names {
         }
     }
 
-    /// A link behind names that are defined there: "`a`, `b` in [file], [file]", "`a` ([file])".
+    /// A link behind names that are defined there: "`a`, `b` in [file], [file]", "`a` ([file])"; or of a name that is,
+    /// "[`a`](file)".
     fn link(&mut self, line: usize, label: &str, target: Option<&str>, behind: Behind) {
         let mut known = self.document.definitions.iter();
         let defined = known.find(|known| known.label == label);
@@ -570,6 +571,11 @@ impl Names {
             self.fail(line, format!("[{label}] leads to {path}"));
         }
         self.file(line, &path, behind);
+        if let Some(name) = code(label).filter(|name| !name.contains(['/', '.', ' '])) {
+            self.held = vec![name.to_string()];
+            self.hold_again(line, &path);
+            self.held.clear();
+        }
     }
 
     /// Text of a row: a semicolon ends a part, and paths that it names are there.
@@ -588,11 +594,12 @@ impl Names {
     }
 
     /// Goes over a row's answer, where contracts, edits and tests are told by their form; or over a paragraph, of
-    /// which only the names before a link are held.
+    /// which only the names before a link are held: those behind the last full stop, semicolon or parenthesis that
+    /// opens with a name.
     fn go_over(&mut self, parts: &[Placed], row: bool) {
-        let mut behind = Behind::Nothing;
+        let mut before = "";
         for Placed { line, part } in parts {
-            let line = *line;
+            let (line, behind) = (*line, Behind::of(before));
             match part {
                 Part::Text(text) if row => self.text(line, text),
                 Part::Text(text) if text.contains([';', '.']) => self.waiting.clear(),
@@ -605,14 +612,20 @@ impl Names {
                 Part::Code(code) if row && code.contains("::") => self.contract(line, code),
                 Part::Code(code) if row && code.contains('/') => self.edit(line, code),
                 Part::Code(code) => {
+                    if !row && before.ends_with('(') {
+                        self.waiting.clear();
+                    }
                     self.waiting.push(code.clone());
                     self.held.clear();
                 }
             }
-            behind = match part {
-                Part::Text(text) => Behind::of(text),
-                _ => Behind::Nothing,
+            before = match part {
+                Part::Text(text) => text,
+                _ => "",
             };
+            if !before.is_empty() && Behind::of(before) != Behind::AnotherFile {
+                self.held.clear();
+            }
         }
         if !row {
             self.waiting.clear();
@@ -1102,13 +1115,17 @@ in [crates/state/specs/Rows.antt](../crates/state/specs/Rows.antt), a paragraph.
 |---|---|
 | `column` in [sbox/specs/Sbox.antt](../crates/sbox/specs/Sbox.antt) | says it |
 
+Of `Unheld` too (`bytes` in [state/Block]), and more
+([state/Rows], [state/Block]); [`addRows`](../crates/state/specs/Rows.antt).
+
+[state/Rows]: ../crates/state/specs/Rows.antt
 [state/Block]: ../crates/state/specs/Block.antt
 ";
         let lost = |name: &str, path: &str| format!("`{name}` is not defined in crates/{path}");
         assert_edits_fail(
             |source| {
                 let (failures, seen) = lost_names(Document::parse(source));
-                assert_eq!(seen, 5);
+                assert_eq!(seen, 7);
                 failures
             },
             &Source::new("docs/small.md", text),
@@ -1117,6 +1134,8 @@ in [crates/state/specs/Rows.antt](../crates/state/specs/Rows.antt), a paragraph.
                 "`Rows`" => "`Row`", 2: &lost("Row", "state/specs/Rows.antt");
                 "`addRows`" => "`column`", 2: &lost("column", "state/specs/Rows.antt");
                 "`rows`" => "`Unheld`", 5: &lost("Unheld", "state/specs/Block.antt");
+                "`bytes`" => "`byte`", 11: &lost("byte", "state/specs/Block.antt");
+                "[`addRows`]" => "[`Block`]", 12: &lost("Block", "state/specs/Rows.antt");
                 "`column`" => "`row`", 9: &lost("row", "sbox/specs/Sbox.antt");
                 "[state/Block](" => "[state/Rows](", 1: "[state/Rows] leads to crates/state/specs/Block.antt";
                 "[sbox/specs" => "[lbox/specs", 9: "[lbox/specs/Sbox.antt] leads to crates/sbox/specs/Sbox.antt";

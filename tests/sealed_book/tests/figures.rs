@@ -266,20 +266,20 @@ fn stack() {
 
 /// A refusal in the header: its name and number.
 struct Named {
+    line: usize,
     name: String,
     number: u32,
 }
 
 /// The refusals of the header, "#define SB_KEY_LENGTH 2" and so on behind "/* Refusals. */".
 fn refusals_named(header: &Source) -> Vec<Named> {
-    let lines = header
-        .text
-        .lines()
-        .skip_while(|line| *line != "/* Refusals. */");
-    let lines = lines.take_while(|line| !line.is_empty());
-    let named = lines.filter_map(|line| {
-        let mut words = line.strip_prefix("#define ")?.split_whitespace();
+    let lines = header.lines();
+    let lines = lines.skip_while(|(_, text)| *text != "/* Refusals. */");
+    let lines = lines.take_while(|(_, text)| !text.is_empty());
+    let named = lines.filter_map(|(line, text)| {
+        let mut words = text.strip_prefix("#define ")?.split_whitespace();
         Some(Named {
+            line,
             name: words.next()?.to_string(),
             number: words.next()?.parse().ok()?,
         })
@@ -448,7 +448,8 @@ fn wrong_table(
         .zip(&named)
         .filter(|(due, named)| named.number != *due)
     {
-        failures.push(header.at(1, format!("`{}` has not the number {due}", named.name)));
+        let what = format!("`{}` has not the number {due}", named.name);
+        failures.push(header.at(named.line, what));
     }
     Ok(failures)
 }
@@ -493,9 +494,9 @@ fn refusals_in_the_header() {
     assert_none(&unsaid_refusals(&header));
 }
 
-/// A number in a table, with how many decimal places it shows: "3,778", "0.040".
+/// A number in a table, in bold or not, with how many decimal places it shows: "3,778", "0.040".
 fn decimal(cell: &str) -> Option<(f64, usize)> {
-    let digits = cell.replace(',', "");
+    let digits = cell.trim_matches('*').replace(',', "");
     let plain = digits
         .bytes()
         .all(|byte| byte.is_ascii_digit() || byte == b'.');
@@ -1124,7 +1125,7 @@ uint64_t sb_place(void);
             &small(text),
             edits! {
                 "0.040" => "0.042", 3: "0.042 is not 3778 / 95031, which is 0.040";
-                "1.238" => "1.22", 3: "1.22 is not 3778 / 3052, which is 1.24";
+                "1.238" => "**1.22**", 3: "**1.22** is not 3778 / 3052, which is 1.24";
                 "1.238" => "1.236", 3: "1.236 is not 3778 / 3052, which is 1.238";
                 "3,778" => "4,778", 3: "0.040 is not 4778 / 95031, which is 0.050";
                 "10 | | 2" => "10 | 2 | 2", 4: "2 is not a quotient of numbers: \"20.5\" and \"\"";

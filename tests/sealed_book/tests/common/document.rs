@@ -367,9 +367,10 @@ fn fence_ticks(line: &str) -> Option<&str> {
 
 /// Level and text of a heading.
 fn heading(line: &str) -> Option<(usize, &str)> {
-    let text = line.trim_start_matches('#');
-    let level = line.len() - text.len();
-    (level > 0).then_some((level, text.trim()))
+    let behind = line.trim_start_matches('#');
+    let text = behind.strip_prefix(' ')?.trim();
+    let level = line.len() - behind.len();
+    (level > 0).then_some((level, text))
 }
 
 /// `[label]: target`, as a line.
