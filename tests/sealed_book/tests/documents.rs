@@ -1,9 +1,21 @@
-//! The documents against the tree: every link and path leads somewhere, every name in TRACE stands where it is said to
-//! stand, every crate has its sentence. Each test prints all places that fail, with file and line.
+//! The documents against the tree: every link and path leads somewhere, every name in TRACE and PROOFS stands where it is
+//! said to stand, every quote is one, every crate has its row, and the README's code is compiled and run. Each test prints
+//! all places that fail, with file and line.
+
+#[path = "common/document.rs"]
+mod document;
 
 use std::collections::{BTreeMap, BTreeSet};
+use std::env;
 use std::fs;
 use std::path::{Component, Path, PathBuf};
+use std::process::{Command, Output};
+use std::sync::OnceLock;
+
+use document::{
+    all, assert_edits_fail, assert_none, code, date, edits, one, parts_of, read, rising_dates,
+    root, Block, Document, Fence, Heading, Kind, Part, Placed, Row, Source, WHOLE,
+};
 
 /// Folders of the repository that a path in a document begins with.
 const FOLDERS: [&str; 7] = [
@@ -26,168 +38,14 @@ const REGISTRIES: [&str; 6] = [
 /// Words about how a text was made, and not about the product; in two pieces, so that they do not stand here either.
 const WORDS: [&str; 2] = [concat!("ses", "sion"), concat!("hel", "per")];
 
-fn root() -> PathBuf {
-    Path::new(env!("CARGO_MANIFEST_DIR")).join("../..")
-}
-
-fn read(path: &str) -> String {
-    fs::read_to_string(root().join(path)).unwrap_or_else(|_| panic!("{path} can be read"))
-}
-
 fn exists(path: &str) -> bool {
     root().join(path).exists()
 }
 
-/// Prints every failing place.
-fn assert_none(failures: &[String]) {
-    assert!(failures.is_empty(), "\n{}\n", failures.join("\n"));
-}
-
-/// A part of a document, and the line on which it begins.
-#[derive(Clone, Debug)]
-enum Part {
-    Text(String),
-    /// What stands between backticks.
-    Code(String),
-    /// `[text](target)`, or `[text]` alone.
-    Link(String, Option<String>),
-}
-
-#[derive(Clone, Debug)]
-struct Placed {
-    line: usize,
-    part: Part,
-}
-
-/// A paragraph, or one row of a table.
-struct Block {
-    line: usize,
-    text: String,
-}
-
-struct Document {
-    name: String,
-    text: String,
-    blocks: Vec<Block>,
-    /// What stands between fences, line by line.
-    fenced: Vec<(usize, String)>,
-    /// Anchors of its headings.
-    anchors: BTreeSet<String>,
-    /// `[label]: target`.
-    definitions: Vec<(usize, String, String)>,
-}
-
-impl Document {
-    fn read(name: &str) -> Document {
-        let text = read(name);
-        let mut document = Document {
-            name: name.to_string(),
-            text: text.clone(),
-            blocks: Vec::new(),
-            fenced: Vec::new(),
-            anchors: BTreeSet::new(),
-            definitions: Vec::new(),
-        };
-        let (mut fence, mut going_on) = (false, false);
-        for (line, content) in (1..).zip(text.lines()) {
-            let row = content.starts_with('|');
-            if content.trim_start().starts_with("```") {
-                fence = !fence;
-            } else if fence {
-                document.fenced.push((line, content.to_string()));
-            } else if content.starts_with('#') {
-                document.add_anchor(content.trim_start_matches('#').trim());
-            } else if let Some((label, target)) = definition(content) {
-                document.definitions.push((line, label, target));
-            } else if going_on && !row && !content.trim().is_empty() {
-                let block = document.blocks.last_mut().expect("a block that goes on");
-                block.text = format!("{}\n{content}", block.text);
-                continue;
-            } else if !content.trim().is_empty() {
-                let text = content.to_string();
-                document.blocks.push(Block { line, text });
-                going_on = !row;
-                continue;
-            }
-            going_on = false;
-        }
-        document
-    }
-
-    /// GitHub's rule: lower case, letters, digits, hyphens and underscores, a hyphen for each space; one that is
-    /// there already gets a number.
-    fn add_anchor(&mut self, heading: &str) {
-        let kept = heading.to_lowercase().replace(' ', "-");
-        let kept: String = kept
-            .chars()
-            .filter(|c| c.is_alphanumeric() || *c == '-' || *c == '_')
-            .collect();
-        let mut anchor = kept.clone();
-        for n in 1.. {
-            if self.anchors.insert(anchor) {
-                break;
-            }
-            anchor = format!("{kept}-{n}");
-        }
-    }
-
-    fn parts(&self) -> Vec<Placed> {
-        let parts = self.blocks.iter();
-        parts
-            .flat_map(|block| parts_of(&block.text, block.line))
-            .collect()
-    }
-
-    fn at(&self, line: usize, what: impl std::fmt::Display) -> String {
-        format!("{}:{line}: {what}", self.name)
-    }
-}
-
-/// `[label]: target`, as a line.
-fn definition(line: &str) -> Option<(String, String)> {
-    let (label, target) = line.strip_prefix('[')?.split_once("]: ")?;
-    Some((label.to_string(), target.trim().to_string()))
-}
-
-/// Cuts a paragraph that begins on this line into text, code and links.
-fn parts_of(text: &str, line: usize) -> Vec<Placed> {
-    let mut parts: Vec<Placed> = Vec::new();
-    let (mut rest, mut line) = (text, line);
-    while let Some(first) = rest.chars().next() {
-        let code = rest
-            .strip_prefix('`')
-            .and_then(|inner| inner.split_once('`'));
-        let link = rest
-            .strip_prefix('[')
-            .and_then(|inner| inner.split_once(']'));
-        let (part, left) = if let Some((code, left)) = code {
-            (Part::Code(code.to_string()), left)
-        } else if let Some((label, left)) = link {
-            let target = left
-                .strip_prefix('(')
-                .and_then(|inner| inner.split_once(')'));
-            match target {
-                Some((target, left)) => (
-                    Part::Link(label.to_string(), Some(target.to_string())),
-                    left,
-                ),
-                None => (Part::Link(label.to_string(), None), left),
-            }
-        } else {
-            let len = rest[first.len_utf8()..].find(['`', '[']);
-            let (text, left) = rest.split_at(len.map_or(rest.len(), |len| len + first.len_utf8()));
-            (Part::Text(text.to_string()), left)
-        };
-        parts.push(Placed { line, part });
-        line += rest[..rest.len() - left.len()].matches('\n').count();
-        rest = left;
-    }
-    parts
-}
-
-/// README and all that is in docs.
+/// README, CHANGELOG, that of the crates, and all that is in docs.
 fn documents() -> Vec<Document> {
-    let mut names = vec!["README.md".to_string()];
+    let names = ["README.md", "CHANGELOG.md", "crates/README.md"];
+    let mut names = names.map(str::to_string).to_vec();
     for entry in fs::read_dir(root().join("docs")).expect("the folder docs") {
         let name = entry.unwrap().file_name().to_string_lossy().into_owned();
         names.push(format!("docs/{name}"));
@@ -216,9 +74,9 @@ fn from_root(document: &str, target: &str) -> String {
 #[test]
 fn links() {
     let documents = documents();
-    let anchors: BTreeMap<&str, &BTreeSet<String>> = documents
+    let anchors: BTreeMap<&str, BTreeSet<String>> = documents
         .iter()
-        .map(|document| (document.name.as_str(), &document.anchors))
+        .map(|document| (document.name(), document.anchors()))
         .collect();
     let mut failures = Vec::new();
     let mut seen = 0;
@@ -229,7 +87,11 @@ fn links() {
             match part {
                 Part::Link(_, Some(target)) => targets.push((line, target)),
                 Part::Link(label, None) => {
-                    if !document.definitions.iter().any(|known| known.1 == label) {
+                    if !document
+                        .definitions
+                        .iter()
+                        .any(|known| known.label == label)
+                    {
                         failures.push(document.at(line, format!("[{label}] has no definition")));
                     }
                     used.insert(label);
@@ -238,13 +100,14 @@ fn links() {
             }
         }
         let mut labels = BTreeSet::new();
-        for (line, label, target) in &document.definitions {
-            targets.push((*line, target.clone()));
+        for known in &document.definitions {
+            let (line, label) = (known.line, &known.label);
+            targets.push((line, known.target.clone()));
             if !used.contains(label) {
-                failures.push(document.at(*line, format!("[{label}] is defined and not used")));
+                failures.push(document.at(line, format!("[{label}] is defined and not used")));
             }
             if !labels.insert(label) {
-                failures.push(document.at(*line, format!("[{label}] is defined twice")));
+                failures.push(document.at(line, format!("[{label}] is defined twice")));
             }
         }
         for (line, target) in targets {
@@ -257,8 +120,8 @@ fn links() {
                 None => (target.as_str(), None),
             };
             let path = match file {
-                "" => document.name.clone(),
-                _ => from_root(&document.name, file),
+                "" => document.name().to_string(),
+                _ => from_root(document.name(), file),
             };
             if !exists(&path) {
                 failures.push(document.at(line, format!("{target} is not there")));
@@ -317,14 +180,16 @@ fn words(text: &str) -> impl Iterator<Item = &str> {
         .map(move |word| word.trim_matches(around).trim_matches('*'))
 }
 
-/// Every path in README, ARCHITECTURE, DECISIONS, SECURITY and TESTING is there, between backticks or not.
+/// TRACE has short forms of its own, and the others say what was.
+const PATHS_NOT_HELD: [&str; 3] = ["docs/TRACE.md", "docs/LANDINGS.md", "CHANGELOG.md"];
+
+/// Every path in the other documents is there, between backticks or not.
 #[test]
 fn paths() {
     let mut failures = Vec::new();
     let mut seen = 0;
     for document in documents() {
-        // TRACE has short forms of its own, and LANDINGS says what was
-        if ["docs/TRACE.md", "docs/LANDINGS.md"].contains(&document.name.as_str()) {
+        if PATHS_NOT_HELD.contains(&document.name()) {
             continue;
         }
         let parts = document.parts().into_iter();
@@ -332,7 +197,9 @@ fn paths() {
             Part::Text(text) | Part::Code(text) => Some((line, text)),
             Part::Link(..) => None,
         });
-        for (first, text) in texts.chain(document.fenced.iter().cloned()) {
+        let fenced = document.fences.iter();
+        let fenced = fenced.map(|fence| (fence.line + 1, fence.lines.join("\n")));
+        for (first, text) in texts.chain(fenced) {
             for (line, text) in (first..).zip(text.lines()) {
                 for word in words(text).filter(|word| word.contains('/')) {
                     seen += 1;
@@ -345,69 +212,129 @@ fn paths() {
     assert_none(&failures);
 }
 
-/// The crates of crates.txt.
-fn crates() -> BTreeSet<String> {
-    let text = read("crates.txt");
-    let lines = text.lines().filter(|line| !line.starts_with('#'));
-    lines
-        .filter_map(|line| Some(line.split_once(':')?.0.to_string()))
-        .collect()
+/// A crate in crates.txt or in a table, and the heading that it stands under.
+struct Listed {
+    line: usize,
+    heading: String,
+    name: String,
 }
 
-/// ARCHITECTURE has every crate, in its drawing and with a sentence under "The crates", and no other one there.
+/// The crates of crates.txt. The heading of a group is the comment above it, up to the first colon, comma or full stop.
+fn listed_crates(list: &Source) -> Vec<Listed> {
+    let mut listed = Vec::new();
+    let (mut heading, mut comment) = (String::new(), false);
+    for (line, text) in list.lines() {
+        let said = text.strip_prefix("# ");
+        if let Some(said) = said.filter(|_| !comment) {
+            let end = said.find([':', ',', '.']).unwrap_or(said.len());
+            heading = said[..end].to_string();
+        } else if let Some((name, _)) = text.split_once(':').filter(|_| said.is_none()) {
+            listed.push(Listed {
+                line,
+                heading: heading.clone(),
+                name: name.to_string(),
+            });
+        }
+        comment = said.is_some();
+    }
+    listed
+}
+
+/// The crate that a row is of, which says something of it: "| `name` | what it has |" or "| [`name`](name) | .. |".
+fn crate_of(row: &Row) -> Option<&str> {
+    let [cell, what] = &row.cells[..] else {
+        return None;
+    };
+    let name = match cell.strip_prefix('[') {
+        Some(link) => {
+            let (label, target) = link.strip_suffix(')')?.split_once("](")?;
+            code(label).filter(|name| *name == target)
+        }
+        None => code(cell),
+    };
+    name.filter(|_| !what.is_empty())
+}
+
+/// The rows of the tables of crates, or what is wrong with them.
+fn listed_rows(document: &Document) -> Vec<Result<Listed, String>> {
+    let mut rows = Vec::new();
+    for table in document.tables_in(&WHOLE, &["crate", "what it has"]) {
+        let heading = document.heading_above(table.line);
+        let heading = heading.map_or("", |heading| heading.text.as_str());
+        rows.extend(table.rows.iter().map(|row| {
+            let name = crate_of(row)
+                .ok_or_else(|| document.at(row.line, "does not say what a crate has"))?;
+            Ok(Listed {
+                line: row.line,
+                heading: heading.to_string(),
+                name: name.to_string(),
+            })
+        }));
+    }
+    rows
+}
+
+/// What is wrong with the tables of crates: each crate of the list has one row, in this order, under the heading of its
+/// group.
+fn crate_rows(document: &Document, list: &Source) -> Vec<String> {
+    let (rows, wrong): (Vec<_>, Vec<_>) =
+        listed_rows(document).into_iter().partition(Result::is_ok);
+    let rows: Vec<Listed> = rows.into_iter().flatten().collect();
+    let mut failures: Vec<String> = wrong.into_iter().filter_map(Result::err).collect();
+
+    let listed = listed_crates(list);
+    for known in &listed {
+        let same: Vec<_> = rows.iter().filter(|row| row.name == known.name).collect();
+        failures.extend(misplaced(document, known, &same));
+    }
+    for row in &rows {
+        if !listed.iter().any(|known| known.name == row.name) {
+            failures.push(document.at(row.line, format!("`{}` is no crate", row.name)));
+        }
+    }
+    let mut twos = rows.iter().zip(&listed);
+    if let Some((row, known)) = twos.find(|(row, known)| row.name != known.name) {
+        let what = format!("`{}` stands where `{}` is due", row.name, known.name);
+        failures.push(document.at(row.line, what));
+    }
+    failures
+}
+
+/// What is wrong with the rows that a crate has.
+fn misplaced(document: &Document, known: &Listed, rows: &[&Listed]) -> Option<String> {
+    let Listed { heading, name, .. } = known;
+    match rows {
+        [] => Some(document.at(1, format!("`{name}` has no row"))),
+        [row] if row.heading == *heading => None,
+        [row] => Some(document.at(row.line, format!("`{name}` is not under \"{heading}\""))),
+        [_, again, ..] => Some(document.at(again.line, format!("`{name}` has a row already"))),
+    }
+}
+
+/// The crates that are not in the drawing under "The layers".
+fn not_drawn(architecture: &Document, list: &Source) -> Result<Vec<String>, String> {
+    let section = architecture.under("## The layers")?;
+    let fences = architecture.fences.iter();
+    let drawing: BTreeSet<&str> = fences
+        .filter(|fence| section.contains(&fence.line))
+        .flat_map(|fence| &fence.lines)
+        .flat_map(|line| line.split(|c: char| !c.is_alphanumeric() && c != '_'))
+        .collect();
+    let listed = listed_crates(list).into_iter();
+    let failures = listed
+        .filter(|known| !drawing.contains(known.name.as_str()))
+        .map(|known| architecture.at(section.start, format!("`{}` is not drawn", known.name)));
+    Ok(failures.collect())
+}
+
+/// The README of the crates has a row for each, and ARCHITECTURE draws each.
 #[test]
 fn every_crate() {
-    let architecture = Document::read("docs/ARCHITECTURE.md");
-    let crates = crates();
-    assert!(crates.len() > 40, "crates were found");
-    let mut failures = Vec::new();
-
-    let line_of = |heading: &str| {
-        let line = architecture.text.lines().position(|line| line == heading);
-        line.unwrap_or_else(|| panic!("{heading} is there")) + 1
-    };
-    let [from, to] = ["## The crates", "## Making a change"].map(line_of);
-
-    // names before a colon: "`a`, `b`: what they have"
-    let mut heads = BTreeSet::new();
-    let mut list = Vec::new();
-    for Placed { line, part } in architecture.parts() {
-        if line < from || line > to {
-            continue;
-        }
-        match part {
-            Part::Code(name) => list.push((line, name)),
-            Part::Text(text) if text.trim() == "," => {}
-            Part::Text(text) => {
-                let names = std::mem::take(&mut list);
-                if text.starts_with(':') {
-                    heads.extend(names);
-                }
-            }
-            Part::Link(..) => list.clear(),
-        }
-    }
-    for (line, name) in &heads {
-        if !name.contains('/') && !crates.contains(name) {
-            failures.push(architecture.at(*line, format!("`{name}` is no crate")));
-        }
-    }
-
-    let drawn: BTreeSet<&str> = architecture
-        .fenced
-        .iter()
-        .flat_map(|(_, text)| text.split(|c: char| !c.is_alphanumeric() && c != '_'))
-        .collect();
-    for name in &crates {
-        if !heads.iter().any(|(_, head)| head == name) {
-            failures.push(architecture.at(from, format!("nothing is said of `{name}`")));
-        }
-        if !drawn.contains(name.as_str()) {
-            failures
-                .push(architecture.at(line_of("## The layers"), format!("`{name}` is not drawn")));
-        }
-    }
-    assert_none(&failures);
+    let list = Source::read("crates.txt");
+    assert!(listed_crates(&list).len() > 40, "crates were found");
+    let rows = crate_rows(&Document::read("crates/README.md"), &list);
+    let drawing = not_drawn(&Document::read("docs/ARCHITECTURE.md"), &list);
+    assert_none(&[rows, all(drawing)].concat());
 }
 
 /// No document names a registry, or speaks of how it was made.
@@ -415,7 +342,7 @@ fn every_crate() {
 fn no_strange_words() {
     let mut failures = Vec::new();
     for document in documents() {
-        for (line, text) in (1..).zip(document.text.lines()) {
+        for (line, text) in document.source.lines() {
             let text = text.to_lowercase();
             for word in REGISTRIES.iter().chain(&WORDS) {
                 if text.contains(word) {
@@ -475,23 +402,49 @@ fn files(folder: &str, endings: &[&str]) -> Vec<String> {
 }
 
 /// Every word of the sources, for names that are given without a file.
-fn all_words() -> BTreeSet<String> {
-    let mut all = BTreeSet::new();
-    for folder in ["crates", "rust", "tests", "include"] {
-        for path in files(folder, &[".rt", ".antt", ".rs", ".h"]) {
-            let text = read(&path);
-            let names = text.split(|c: char| !c.is_alphanumeric() && !"_-'".contains(c));
-            all.extend(names.map(str::to_string));
+fn all_words() -> &'static BTreeSet<String> {
+    static WORDS: OnceLock<BTreeSet<String>> = OnceLock::new();
+    WORDS.get_or_init(|| {
+        let mut all = BTreeSet::new();
+        for folder in ["crates", "rust", "tests", "include"] {
+            for path in files(folder, &[".rt", ".antt", ".rs", ".h"]) {
+                let text = read(&path);
+                let names = text.split(|c: char| !c.is_alphanumeric() && !"_-'".contains(c));
+                all.extend(names.map(str::to_string));
+            }
         }
-    }
-    all.extend(crates());
-    all
+        let crates = listed_crates(&Source::read("crates.txt"));
+        all.extend(crates.into_iter().map(|known| known.name));
+        all
+    })
 }
 
-/// TRACE, gone over name by name.
-struct Trace {
+/// How a file stands behind names.
+#[derive(Clone, Copy, PartialEq)]
+enum Behind {
+    /// "`a` in FILE", "`a` (FILE": the names before it are defined there.
+    Names,
+    /// ", FILE": they are defined there, too.
+    AnotherFile,
+    Nothing,
+}
+
+impl Behind {
+    /// By the text between the names and the file.
+    fn of(text: &str) -> Behind {
+        match text.split_whitespace().last() {
+            Some("in" | "(in") => Behind::Names,
+            Some("(") if text.trim() == "(" => Behind::Names,
+            Some(",") if text.trim() == "," => Behind::AnotherFile,
+            _ => Behind::Nothing,
+        }
+    }
+}
+
+/// A document, gone over name by name.
+struct Names {
     document: Document,
-    words: BTreeSet<String>,
+    words: &'static BTreeSet<String>,
     tests: Vec<String>,
     failures: Vec<String>,
     seen: usize,
@@ -503,7 +456,21 @@ struct Trace {
     testing: bool,
 }
 
-impl Trace {
+impl Names {
+    fn of(document: Document) -> Names {
+        let folders = ["tests/sealed_book/tests", "tests/reference", "rust/tests"];
+        Names {
+            document,
+            words: all_words(),
+            tests: folders.map(|folder| files(folder, &[".rs"])).concat(),
+            failures: Vec::new(),
+            seen: 0,
+            waiting: Vec::new(),
+            held: Vec::new(),
+            testing: false,
+        }
+    }
+
     fn fail(&mut self, line: usize, what: String) {
         self.failures.push(self.document.at(line, what));
     }
@@ -566,8 +533,17 @@ impl Trace {
         }
     }
 
+    /// The names are defined in this file, as far as it stands behind any.
+    fn file(&mut self, line: usize, path: &str, behind: Behind) {
+        match behind {
+            Behind::Names => self.hold(line, path),
+            Behind::AnotherFile => self.hold_again(line, path),
+            Behind::Nothing => {}
+        }
+    }
+
     /// A file of tests by its short name, behind names that are its functions: "`a`, `b` (`tests/x.rs`, `tests/y.rs`)".
-    fn test_file(&mut self, line: usize, name: &str, before: &str) {
+    fn test_file(&mut self, line: usize, name: &str, behind: Behind) {
         self.seen += 1;
         let path = match name.split_once('/') {
             Some(("tests", file)) => format!("tests/sealed_book/tests/{file}"),
@@ -575,29 +551,30 @@ impl Trace {
             Some(("rust", file)) => format!("rust/tests/{file}"),
             _ => name.to_string(),
         };
-        match before {
-            _ if !exists(&path) => self.fail(line, format!("`{name}`: {path} is not there")),
-            " (" => self.hold(line, &path),
-            ", " => self.hold_again(line, &path),
-            _ => {}
+        if exists(&path) {
+            self.file(line, &path, behind);
+        } else {
+            self.fail(line, format!("`{name}`: {path} is not there"));
         }
     }
 
-    /// A link behind names that are defined there: "`a`, `b` in [file], [file]", "`a` ([file])".
-    fn link(&mut self, line: usize, label: &str, target: Option<&str>, before: &str) {
+    /// A link behind names that are defined there: "`a`, `b` in [file], [file]", "`a` ([file])"; or of a name that is,
+    /// "[`a`](file)".
+    fn link(&mut self, line: usize, label: &str, target: Option<&str>, behind: Behind) {
         let mut known = self.document.definitions.iter();
-        let defined = known.find(|known| known.1 == label);
-        let Some(target) = target.or(defined.map(|known| known.2.as_str())) else {
+        let defined = known.find(|known| known.label == label);
+        let Some(target) = target.or(defined.map(|known| known.target.as_str())) else {
             return;
         };
-        let path = from_root(&self.document.name, target);
+        let path = from_root(self.document.name(), target);
         if !agrees(label, &path) {
             self.fail(line, format!("[{label}] leads to {path}"));
         }
-        if before.ends_with("in ") || before == " (" {
-            self.hold(line, &path);
-        } else if before == ", " {
+        self.file(line, &path, behind);
+        if let Some(name) = code(label).filter(|name| !name.contains(['/', '.', ' '])) {
+            self.held = vec![name.to_string()];
             self.hold_again(line, &path);
+            self.held.clear();
         }
     }
 
@@ -617,23 +594,27 @@ impl Trace {
     }
 
     /// Goes over a row's answer, where contracts, edits and tests are told by their form; or over a paragraph, of
-    /// which only the names before a link are held.
+    /// which only the names before a link are held: those behind the last full stop, semicolon or parenthesis that
+    /// opens with a name.
     fn go_over(&mut self, parts: &[Placed], row: bool) {
         let mut before = "";
         for Placed { line, part } in parts {
-            let line = *line;
+            let (line, behind) = (*line, Behind::of(before));
             match part {
                 Part::Text(text) if row => self.text(line, text),
                 Part::Text(text) if text.contains([';', '.']) => self.waiting.clear(),
                 Part::Text(_) => {}
-                Part::Link(label, target) => self.link(line, label, target.as_deref(), before),
+                Part::Link(label, target) => self.link(line, label, target.as_deref(), behind),
                 Part::Code(code) if code.contains(' ') => {}
                 Part::Code(code) if row && code.ends_with(".rs") => {
-                    self.test_file(line, code, before);
+                    self.test_file(line, code, behind);
                 }
                 Part::Code(code) if row && code.contains("::") => self.contract(line, code),
                 Part::Code(code) if row && code.contains('/') => self.edit(line, code),
                 Part::Code(code) => {
+                    if !row && before.ends_with('(') {
+                        self.waiting.clear();
+                    }
                     self.waiting.push(code.clone());
                     self.held.clear();
                 }
@@ -642,6 +623,9 @@ impl Trace {
                 Part::Text(text) => text,
                 _ => "",
             };
+            if !before.is_empty() && Behind::of(before) != Behind::AnotherFile {
+                self.held.clear();
+            }
         }
         if !row {
             self.waiting.clear();
@@ -651,39 +635,619 @@ impl Trace {
 }
 
 /// Whether a link to a crate says where it leads: [crate/File] is in specs, [crate/proofs/File] and
-/// [crate/src/file.rt] are as they say.
+/// [crate/src/file.rt] are as they say; so is the path itself, with or without the folder of the crates.
 fn agrees(label: &str, path: &str) -> bool {
+    let label = code(label).unwrap_or(label);
     let Some((folder, file)) = label.split_once('/') else {
         return true;
     };
     let told = match file.split_once('/') {
-        Some(("src", _)) => format!("crates/{label}"),
-        Some(_) => format!("crates/{label}.antt"),
-        None => format!("crates/{folder}/specs/{file}.antt"),
+        Some(_) => format!("crates/{label}"),
+        None => format!("crates/{folder}/specs/{file}"),
     };
-    !path.starts_with("crates/") || path == told
+    let told = [label.to_string(), format!("{told}.antt"), told];
+    !path.starts_with("crates/") || told.iter().any(|told| told == path)
 }
 
 /// Every name in TRACE stands where its line says.
 #[test]
 fn trace() {
-    let folders = ["tests/sealed_book/tests", "tests/reference", "rust/tests"];
-    let mut trace = Trace {
-        document: Document::read("docs/TRACE.md"),
-        words: all_words(),
-        tests: folders.map(|folder| files(folder, &[".rs"])).concat(),
-        failures: Vec::new(),
-        seen: 0,
-        waiting: Vec::new(),
-        held: Vec::new(),
-        testing: false,
-    };
-    for Block { line, text } in std::mem::take(&mut trace.document.blocks) {
+    let mut names = Names::of(Document::read("docs/TRACE.md"));
+    for Block { line, text, .. } in std::mem::take(&mut names.document.blocks) {
         let row = text.strip_prefix("| ").map(|row| row.trim_end_matches('|'));
         let answer = row.and_then(|row| row.rsplit(" | ").next());
         let parts = parts_of(answer.unwrap_or(&text), line);
-        trace.go_over(&parts, answer.is_some());
+        names.go_over(&parts, answer.is_some());
     }
-    assert!(trace.seen > 500, "names were found");
-    assert_none(&trace.failures);
+    assert!(names.seen > 500, "names were found");
+    assert_none(&names.failures);
+}
+
+/// The names in paragraphs, items and rows that stand before a link and are not defined there; and how many do stand so.
+fn lost_names(document: Document) -> (Vec<String>, usize) {
+    let mut names = Names::of(document);
+    for Block { line, text, .. } in std::mem::take(&mut names.document.blocks) {
+        names.go_over(&parts_of(&text, line), false);
+    }
+    (names.failures, names.seen)
+}
+
+/// Every name in PROOFS that stands before a link is defined there.
+#[test]
+fn proofs() {
+    let (failures, seen) = lost_names(Document::read("docs/PROOFS.md"));
+    assert!(seen > 10, "names were found");
+    assert_none(&failures);
+}
+
+/// Lines without the indentation that they share, and without blanks at their ends.
+fn unindented<T: AsRef<str>>(lines: &[T]) -> Vec<&str> {
+    let lines: Vec<&str> = lines.iter().map(|line| line.as_ref().trim_end()).collect();
+    let indented = lines.iter().filter(|line| !line.is_empty());
+    let least = indented.map(|line| line.len() - line.trim_start().len());
+    let least = least.min().unwrap_or(0);
+    lines
+        .iter()
+        .map(|line| line.get(least..).unwrap_or_default())
+        .collect()
+}
+
+/// How many lines of a quote stand in the text one behind the other, where most do.
+fn quoted(quote: &[&str], text: &str) -> usize {
+    let lines: Vec<&str> = text.lines().collect();
+    let same = (0..lines.len()).map(|from| {
+        let to = lines.len().min(from + quote.len());
+        let twos = unindented(&lines[from..to]).into_iter().zip(quote);
+        twos.take_while(|(line, quoted)| line == *quoted).count()
+    });
+    same.max().unwrap_or(0)
+}
+
+/// What is wrong with a block that quotes a file, if anything.
+fn misquoted(document: &Document, fence: &Fence, text: Option<String>) -> Option<String> {
+    let quote = unindented(&fence.lines);
+    let Some(text) = text else {
+        return Some(document.at(fence.line, format!("\"{}\": no such file", fence.info)));
+    };
+    if quote.iter().all(|line| line.is_empty()) {
+        return Some(document.at(fence.line, "quotes nothing"));
+    }
+    let same = quoted(&quote, &text);
+    (same < quote.len()).then(|| {
+        let what = format!("\"{}\" does not go on so in the file", fence.info);
+        document.at(fence.line + 1 + same, what)
+    })
+}
+
+/// What is wrong with the quotes of code and definitions; there is one at least.
+fn misquotes(document: &Document, file: impl Fn(&str) -> Option<String>) -> Vec<String> {
+    let mut failures = Vec::new();
+    let mut seen = 0;
+    for fence in &document.fences {
+        let (language, path) = fence.info.split_once(' ').unwrap_or((&fence.info, ""));
+        if ["rattle", "antt"].contains(&language) {
+            seen += 1;
+            failures.extend(misquoted(document, fence, file(path)));
+        }
+    }
+    if seen == 0 {
+        failures.push(document.at(1, "quotes no file"));
+    }
+    failures
+}
+
+/// Every block of Rattle or antt in PROOFS stands in the file that it names.
+#[test]
+fn quotes() {
+    let file = |path: &str| fs::read_to_string(root().join(path)).ok();
+    assert_none(&misquotes(&Document::read("docs/PROOFS.md"), file));
+}
+
+/// How many words the README has at most.
+const README_WORDS: usize = 900;
+
+/// Whether a document has more words than that, counted as `wc -w` does.
+fn too_many_words(document: &Document) -> Option<String> {
+    let words = document.source.text.split_whitespace().count();
+    let what = format!("{words} words, of {README_WORDS} at most");
+    (words > README_WORDS).then(|| document.at(1, what))
+}
+
+#[test]
+fn length_of_the_readme() {
+    let failure = too_many_words(&Document::read("README.md"));
+    assert_none(&Vec::from_iter(failure));
+}
+
+/// Documents whose lines are held to a length.
+const SHORT_LINES: [&str; 8] = [
+    "README.md",
+    "CHANGELOG.md",
+    "crates/README.md",
+    "docs/FORMAT.md",
+    "docs/PROOFS.md",
+    "docs/REFUSALS.md",
+    "docs/SECURITY.md",
+    "docs/SPEED.md",
+];
+
+/// How many characters such a line has at most.
+const LINE: usize = 160;
+
+/// Lines that have more, outside tables, fences and definitions of links.
+fn long_lines(document: &Document) -> Vec<String> {
+    let headings = document.headings.iter().map(|heading| heading.line);
+    let blocks = document.blocks.iter();
+    let blocks = blocks.filter(|block| block.kind != Kind::Row);
+    let blocks = blocks.flat_map(|block| (block.line..).take(block.text.lines().count()));
+    let lines: BTreeSet<usize> = headings.chain(blocks).collect();
+    let prose = document.source.lines();
+    prose
+        .map(|(line, text)| (line, text.chars().count()))
+        .filter(|(line, len)| lines.contains(line) && *len > LINE)
+        .map(|(line, len)| document.at(line, format!("{len} characters, of {LINE} at most")))
+        .collect()
+}
+
+#[test]
+fn lengths_of_lines() {
+    let documents = SHORT_LINES.map(Document::read);
+    assert_none(&documents.each_ref().map(long_lines).concat());
+}
+
+/// The number of a landing, from its heading "7. Title".
+fn landing_number(heading: &Heading) -> Option<usize> {
+    let (number, title) = heading.text.split_once(". ")?;
+    number.parse().ok().filter(|_| !title.trim().is_empty())
+}
+
+/// The date that the first line under a heading begins with, and a full stop behind it.
+fn date_under<'a>(document: &'a Document, heading: &Heading) -> Option<(usize, &'a str)> {
+    let mut below = document.source.lines().skip(heading.line);
+    let (line, text) = below.find(|(_, text)| !text.trim().is_empty())?;
+    let date = date(text).filter(|date| text[date.len()..].starts_with('.'))?;
+    Some((line, date))
+}
+
+/// What is wrong with the landings: their numbers fall by one down to 1, each has a date, none is later than the one
+/// above it, and a table of crates is the newest one's.
+fn wrong_landings(document: &Document) -> Vec<String> {
+    let headings = document.headings.iter();
+    let landings: Vec<_> = headings.filter(|heading| heading.level == 2).collect();
+    let mut failures = Vec::new();
+    let mut dates = Vec::new();
+    for (due, landing) in (1..=landings.len()).rev().zip(&landings) {
+        if landing_number(landing) != Some(due) {
+            failures.push(document.at(landing.line, format!("\"{due}. Title\" is due")));
+        }
+        match date_under(document, landing) {
+            Some(found) => dates.push(found),
+            None => failures.push(document.at(landing.line, "no date stands under it")),
+        }
+    }
+    failures.extend(rising_dates(&document.source, &dates));
+
+    let newest = landings.first().map(|newest| document.section(newest));
+    let newest = newest.unwrap_or_default();
+    for table in &document.tables {
+        let of_crates = table.header.iter().any(|cell| cell == "crate");
+        if of_crates && !newest.contains(&table.line) {
+            failures.push(document.at(table.line, "only the newest landing has a table of crates"));
+        }
+    }
+    if landings.is_empty() {
+        failures.push(document.at(1, "has no landing"));
+    }
+    failures
+}
+
+#[test]
+fn landings() {
+    assert_none(&wrong_landings(&Document::read("docs/LANDINGS.md")));
+}
+
+/// The comment at the top of a file of Rust, as a document with the file's lines.
+fn doc_comment(file: &Source) -> Document {
+    let lines = file.text.lines().map_while(|line| line.strip_prefix("//!"));
+    let lines: Vec<_> = lines
+        .map(|line| line.strip_prefix(' ').unwrap_or(line))
+        .collect();
+    Document::parse(&Source::new(&file.name, &lines.join("\n")))
+}
+
+/// Whether rustdoc hides a line of an example.
+fn hidden(line: &str) -> bool {
+    line.trim() == "#" || line.trim_start().starts_with("# ")
+}
+
+/// What is wrong with the block of Rust in the README: it is the example of the crate, without its hidden lines.
+fn wrong_example(readme: &Document, library: &Source) -> Result<(), String> {
+    let block = readme.fence("rust")?;
+    let comment = doc_comment(library);
+    let mut fences = comment.fences.iter();
+    let example = fences.find(|fence| ["", "rust"].contains(&fence.info.as_str()));
+    let example = example.ok_or_else(|| library.at(1, "has no example"))?;
+    let lines = (example.line + 1..).zip(&example.lines);
+    let mut shown = lines.filter(|(_, text)| !hidden(text));
+    for (line, text) in (block.line + 1..).zip(&block.lines) {
+        match shown.next() {
+            Some((_, known)) if known == text => {}
+            Some((at, known)) => {
+                let what = format!("is not line {at} of {}: {known}", library.name);
+                return Err(readme.at(line, what));
+            }
+            None => return Err(readme.at(line, "the example has ended before this")),
+        }
+    }
+    shown.next().map_or(Ok(()), |(at, _)| {
+        Err(library.at(at, "this line of the example is not in the README"))
+    })
+}
+
+/// The README's block of Rust is the example that cargo runs as a test.
+#[test]
+fn code_in_rust() {
+    let library = Source::read("rust/src/lib.rs");
+    assert_none(&one(wrong_example(&Document::read("README.md"), &library)));
+}
+
+/// A program in C with this body of its main, compiled as `name`, linked with the library, and run.
+fn run_in_c(name: &str, body: &str) -> Result<Output, String> {
+    let folder = PathBuf::from(env!("CARGO_TARGET_TMPDIR"));
+    let (source, program) = (folder.join(format!("{name}.c")), folder.join(name));
+    let headers = ["<stdint.h>", "<stdio.h>", "<string.h>", "\"sealed_book.h\""];
+    let headers = headers
+        .map(|header| format!("#include {header}\n"))
+        .concat();
+    let text = format!("{headers}\nint main(void) {{\n{body}\nreturn 0;\n}}\n");
+    fs::write(&source, text).expect("a file can be written");
+
+    let library = env::var_os("SEALED_BOOK_LIB")
+        .map_or_else(|| root().join("target/staticlib"), PathBuf::from);
+    let compiled = Command::new(env::var_os("CC").unwrap_or_else(|| "cc".into()))
+        .args(["-std=c99", "-Wall", "-Wextra", "-Werror", "-pedantic", "-I"])
+        .arg(root().join("include"))
+        .arg(&source)
+        .arg(library.join("libsealed_book.a"))
+        .arg("-o")
+        .arg(&program)
+        .output()
+        .expect("a C compiler runs");
+    if !compiled.status.success() {
+        return Err(String::from_utf8_lossy(&compiled.stderr).into_owned());
+    }
+    Ok(Command::new(&program).output().expect("the program runs"))
+}
+
+/// What comments say that a program prints: "/* prints: TEXT */".
+fn said_to_print(body: &str) -> Vec<&str> {
+    let comments = body.split("/* prints:").skip(1);
+    let comments = comments.map(|comment| comment.split("*/").next().unwrap_or_default());
+    comments
+        .flat_map(|comment| comment.trim().lines().map(str::trim))
+        .collect()
+}
+
+/// What is wrong with the block of C in the README: it compiles as the body of a main, runs to its end, and prints what
+/// its comments say, if they do.
+fn wrong_program(readme: &Document) -> Result<(), String> {
+    let block = readme.fence("c")?;
+    let lines = block.lines.join("\n");
+    // so that the compiler tells the lines of the README
+    let body = format!("#line {} \"{}\"\n{lines}", block.line + 1, readme.name());
+    let fail = |what: String| readme.at(block.line, what);
+    let output = run_in_c(&readme.name().replace(['/', '.'], "_"), &body)
+        .map_err(|told| fail(format!("does not compile\n{told}")))?;
+    if !output.status.success() {
+        let told = String::from_utf8_lossy(&output.stderr);
+        return Err(fail(format!("ends with {}\n{told}", output.status)));
+    }
+    let printed = String::from_utf8_lossy(&output.stdout);
+    let printed: Vec<&str> = printed.lines().map(str::trim).collect();
+    let said = said_to_print(&lines);
+    if !said.is_empty() && said != printed {
+        return Err(fail(format!("says {said:?} and prints {printed:?}")));
+    }
+    Ok(())
+}
+
+#[test]
+fn code_in_c() {
+    assert_none(&one(wrong_program(&Document::read("README.md"))));
+}
+
+/// The tests above on small documents: each finds what is broken there.
+mod small_documents {
+    use super::*;
+
+    #[test]
+    fn landings() {
+        let text = "\
+# Landings
+
+## 2. The second
+
+2026-11-16. It landed.
+
+| crate | lines |
+|---|---|
+| `a` | 1 |
+
+## 1. The first
+
+2026-11-16. It landed.
+
+| | lines |
+|---|---|
+| all | 1 |
+";
+        let (second, first) = ("\"2. Title\" is due", "\"1. Title\" is due");
+        let undated = "no date stands under it";
+        assert_edits_fail(
+            |source| wrong_landings(&Document::parse(source)),
+            &Source::new("small.md", text),
+            edits! {
+                "## 2." => "## 3.", 3: second;
+                "## 2. The" => "## 2 The", 3: second;
+                "## 2. The second" => "## 2. ", 3: second;
+                "## 1." => "## 2.", 11: first;
+                "2026-11-16. " => "", 3: undated;
+                "2026-11-16." => "2026-11-16", 3: undated;
+                "2026-11-16." => "2026-13-16.", 3: undated;
+                "2026-11-16." => "2026-11-1x.", 3: undated;
+                "2026-11-16." => "2026-11-15.", 13: "2026-11-16 is after 2026-11-15 above it";
+                "| | lines" => "| crate | lines", 15: "only the newest landing has";
+                "# Landings\n\n" => "# Landings\n| crate |\n", 2: "only the newest landing has";
+            },
+        );
+        let none = Document::parse(&Source::new("small.md", "# Landings"));
+        assert_eq!(wrong_landings(&none), ["small.md:1: has no landing"]);
+    }
+
+    #[test]
+    fn words() {
+        let text = "word ".repeat(899) + "\n\nlast";
+        assert_edits_fail(
+            |source| Vec::from_iter(too_many_words(&Document::parse(source))),
+            &Source::new("small.md", &text),
+            edits! {
+                "last" => "last one", 1: "901 words, of 900 at most";
+            },
+        );
+    }
+
+    #[test]
+    fn lines() {
+        let [long, most] = [161, 160].map(|len| "ä".repeat(len));
+        let text = format!(
+            "# Heading\n{most}\n\n- item\n  {}\n\n| {long} |\n\n```text\n{long}\n```\n\n[a]: {long}\n",
+            &most[4..]
+        );
+        let what = "161 characters, of 160 at most";
+        assert_edits_fail(
+            |source| long_lines(&Document::parse(source)),
+            &Source::new("small.md", &text),
+            edits! {
+                "# Heading" => &format!("# {}", &long[4..]), 1: what;
+                "\nä" => "\nää", 2: what;
+                "- item" => &format!("- {}", &long[4..]), 4: what;
+                "  ä" => "   ä", 5: what;
+                "| ä" => "+ ä", 7: "165 characters, of 160 at most";
+            },
+        );
+    }
+
+    #[test]
+    fn crates() {
+        let list = "\
+# Each uses only those above it.
+
+# Ground: bits, and
+# more: of them.
+bits:
+state: bits
+
+# For C, by subject.
+c_book: bits state
+";
+        let list = Source::new("list.txt", list);
+        let text = "\
+# Crates
+
+## Ground
+
+| crate | what it has |
+|---|---|
+| `bits` | bits |
+| [`state`](state) | rows |
+
+## For C
+
+| crate | what it has |
+|---|---|
+| `c_book` | functions |
+";
+        let unsaid = "does not say what a crate has";
+        assert_edits_fail(
+            |source| crate_rows(&Document::parse(source), &list),
+            &Source::new("small.md", text),
+            edits! {
+                "| `bits` | bits |\n" => "", 1: "`bits` has no row";
+                "| crate |" => "| crates |", 1: "`state` has no row";
+                "`bits` |" => "bits |", 7: unsaid;
+                "| bits |" => "| |", 7: unsaid;
+                "(state)" => "(bits)", 8: unsaid;
+                "`bits`" => "`bit`", 7: "`bit` is no crate";
+                "`c_book`" => "`state`", 14: "`state` has a row already";
+                "## For C" => "## C", 14: "`c_book` is not under \"For C\"";
+                "| `bits` | bits |\n| [`state`](state) |" => "| `state` | rows |\n| `bits` |", 7: "`state` stands where `bits` is due";
+            },
+        );
+    }
+
+    #[test]
+    fn drawing() {
+        let list = Source::new("list.txt", "# Ground.\nbits:\nc_book: bits\n");
+        let text =
+            "# A\n\n## The layers\n\n```text\n| c_book, bits |\n```\n\n## B\n\n```text\nx\n```\n";
+        assert_edits_fail(
+            |source| all(not_drawn(&Document::parse(source), &list)),
+            &Source::new("small.md", text),
+            edits! {
+                "bits" => "bit", 3: "`bits` is not drawn";
+                "c_book, bits |\n```\n\n## B\n\n```text" => "bits |\n```\n\n## B\n\n```text\nc_book", 3: "`c_book` is not drawn";
+                "## The layers" => "## Layers", 1: "has no heading \"## The layers\"";
+            },
+        );
+    }
+
+    /// In a paragraph, an item and a row, with files of the tree.
+    #[test]
+    fn names() {
+        let text = "\
+`Block` in [state/Block](../crates/state/specs/Block.antt); `Rows`, `addRows`
+in [crates/state/specs/Rows.antt](../crates/state/specs/Rows.antt), a paragraph.
+
+- `Unheld` stands in an item
+- as does `rows` ([state/Block])
+
+| name | file |
+|---|---|
+| `column` in [sbox/specs/Sbox.antt](../crates/sbox/specs/Sbox.antt) | says it |
+
+Of `Unheld` too (`bytes` in [state/Block]), and more
+([state/Rows], [state/Block]); [`addRows`](../crates/state/specs/Rows.antt).
+
+[state/Rows]: ../crates/state/specs/Rows.antt
+[state/Block]: ../crates/state/specs/Block.antt
+";
+        let lost = |name: &str, path: &str| format!("`{name}` is not defined in crates/{path}");
+        assert_edits_fail(
+            |source| {
+                let (failures, seen) = lost_names(Document::parse(source));
+                assert_eq!(seen, 7);
+                failures
+            },
+            &Source::new("docs/small.md", text),
+            edits! {
+                "`Block`" => "`Blok`", 1: &lost("Blok", "state/specs/Block.antt");
+                "`Rows`" => "`Row`", 2: &lost("Row", "state/specs/Rows.antt");
+                "`addRows`" => "`column`", 2: &lost("column", "state/specs/Rows.antt");
+                "`rows`" => "`Unheld`", 5: &lost("Unheld", "state/specs/Block.antt");
+                "`bytes`" => "`byte`", 11: &lost("byte", "state/specs/Block.antt");
+                "[`addRows`]" => "[`Block`]", 12: &lost("Block", "state/specs/Rows.antt");
+                "`column`" => "`row`", 9: &lost("row", "sbox/specs/Sbox.antt");
+                "[state/Block](" => "[state/Rows](", 1: "[state/Rows] leads to crates/state/specs/Block.antt";
+                "[sbox/specs" => "[lbox/specs", 9: "[lbox/specs/Sbox.antt] leads to crates/sbox/specs/Sbox.antt";
+            },
+        );
+    }
+
+    #[test]
+    fn quotes() {
+        let file = "module a\n\n  f : N\n    → N\n\n  f = g\n    where\n";
+        let file = |path: &str| (path == "a/B.antt").then(|| file.to_string());
+        let text = "\
+- In an item:
+
+  ```antt a/B.antt
+  f : N
+    → N
+
+  f = g
+  ```
+
+```rattle a/B.antt
+  f = g
+    where
+```
+
+```text
+not in the file
+```
+";
+        let what = "\"antt a/B.antt\" does not go on so in the file";
+        assert_edits_fail(
+            |source| misquotes(&Document::parse(source), file),
+            &Source::new("small.md", text),
+            edits! {
+                "f : N" => "f  : N", 4: what;
+                "    → N" => "  → N", 5: what;
+                "\n\n  f = g" => "\n  f = g", 6: what;
+                "    → N\n" => "    → N\n    → N\n", 6: what;
+                "f = g\n  ```" => "f = h\n  ```", 7: what;
+                "    where\n" => "    where\n    more\n", 13: "\"rattle a/B.antt\" does not go on";
+                "antt a/B" => "antt a/C", 3: "\"antt a/C.antt\": no such file";
+                "antt a/B.antt" => "antt", 3: "\"antt\": no such file";
+                "  f = g\n    where\n" => "\n", 10: "quotes nothing";
+            },
+        );
+        let none = Document::parse(&Source::new("small.md", "```text\nx\n```\n"));
+        assert_eq!(misquotes(&none, file), ["small.md:1: quotes no file"]);
+    }
+
+    #[test]
+    fn code_in_rust() {
+        let library = "\
+//! Books.
+//!
+//! ```
+//! use books::Book;
+//!
+//! # fn main() {
+//! for i in 0..2 {
+//!     Book::new(i);
+//! #   drop(i);
+//! }
+//! # }
+//! ```
+
+pub struct Book;
+";
+        let library = Source::new("lib.rs", library);
+        let text =
+            "# Books\n\n```rust\nuse books::Book;\n\nfor i in 0..2 {\n    Book::new(i);\n}\n```\n";
+        assert_edits_fail(
+            |source| one(wrong_example(&Document::parse(source), &library)),
+            &Source::new("small.md", text),
+            edits! {
+                "0..2" => "0..3", 6: "is not line 7 of lib.rs: for i in 0..2 {";
+                "\n\nfor" => "\nfor", 5: "is not line 5 of lib.rs: ";
+                "    Book" => "   Book", 7: "is not line 8 of lib.rs:     Book::new(i);";
+                "}\n```" => "}\nf();\n```", 9: "the example has ended before this";
+                "```rust" => "```", 1: "0 in place of one block of \"rust\"";
+            },
+        );
+        let shorter = Document::parse(&Source::new("small.md", &text.replace("}\n", "")));
+        let expected = "lib.rs:10: this line of the example is not in the README";
+        assert_eq!(wrong_example(&shorter, &library), Err(expected.to_string()));
+    }
+
+    #[test]
+    fn code_in_c() {
+        let text = "\
+# Books
+
+```c
+const uint8_t book[SB_FIRST_UNIT] = {1, 0, 8, 0, 0, 0, 0, 0, 0, 0, 7, 2, 0, 2, 1, 10};
+uint8_t cipher, steps;
+uint64_t number;
+if (sb_info(book, sizeof book, &cipher, &steps, &number) == 0)
+    printf(\"book %u\\n\", (unsigned)number); /* prints: book 7 */
+```
+";
+        let uncompiled = "does not compile\n";
+        assert_edits_fail(
+            |source| one(wrong_program(&Document::parse(source))),
+            &Source::new("small.md", text),
+            edits! {
+                "sb_info" => "sb_no_such_call", 3: uncompiled;
+                "uint64_t number" => "uint64_t unused, number", 3: uncompiled;
+                "== 0" => "== 14", 3: "says [\"book 7\"] and prints []";
+                "prints: book 7" => "prints: book 8", 3: "says [\"book 8\"] and prints [\"book 7\"]";
+                "    printf" => "    return 3;\nelse\n    printf", 3: "ends with exit status: 3";
+                "```c" => "```", 1: "0 in place of one block of \"c\"";
+            },
+        );
+    }
 }
