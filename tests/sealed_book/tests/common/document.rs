@@ -1,8 +1,5 @@
 //! Documents in Markdown, cut into their parts, each with its line; and how what fails in them is told.
 
-// Each test file uses a part of this.
-#![allow(dead_code)]
-
 use std::collections::BTreeSet;
 use std::fmt::Display;
 use std::fs;
@@ -30,37 +27,6 @@ pub fn one<T>(answer: Result<T, String>) -> Vec<String> {
 /// All places that fail; or the one without which the others cannot be looked for.
 pub fn all(failures: Result<Vec<String>, String>) -> Vec<String> {
     failures.unwrap_or_else(|failure| vec![failure])
-}
-
-/// An edit of a text that a test has to find: what stands there first, what is put in its place, and the line and the
-/// words, from the first on, that are then told.
-pub type Edit<'a> = (&'a str, &'a str, usize, &'a str);
-
-/// Edits, one a line.
-macro_rules! edits {
-    ($($from:expr => $to:expr, $line:literal: $what:expr;)*) => {
-        &[$(($from, $to, $line, $what)),*]
-    };
-}
-pub(crate) use edits;
-
-/// The test of a test: the text passes, and fails with each edit.
-pub fn assert_edits_fail(
-    check: impl Fn(&Source) -> Vec<String>,
-    good: &Source,
-    edits: &[Edit<'_>],
-) {
-    assert_none(&check(good));
-    for (from, to, line, what) in edits {
-        assert!(good.text.contains(from), "{from:?} is there to be edited");
-        let edited = good.text.replacen(from, to, 1);
-        let told = check(&Source::new(&good.name, &edited));
-        let expected = good.at(*line, what);
-        assert!(
-            told.iter().any(|failure| failure.starts_with(&expected)),
-            "{from:?} to {to:?}\n  is to be told so: {expected}\n  and is told so: {told:#?}"
-        );
-    }
 }
 
 /// A file's text, with the name by which places in it are told.

@@ -1,5 +1,5 @@
 //! Both directions of a cipher, in the library and in the reference; sealing; writing and checking a
-//! book, fetching from it, and what it says in the clear; and causes of refusal.
+//! book, fetching from it, and what it says in the clear; causes of refusal; and documents.
 
 // Each test file uses a part of this.
 #![allow(dead_code)]
@@ -7,6 +7,7 @@
 pub mod causes;
 pub mod checking;
 pub mod clearing;
+pub mod document;
 pub mod fetching;
 pub mod guarded;
 pub mod parts;

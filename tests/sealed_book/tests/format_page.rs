@@ -1,0 +1,425 @@
+//! The page on the file format, docs/FORMAT.md, against the second implementation, the library and the vectors: the
+//! worked example, the tables of the ciphers, and the longer seal. Each test prints all places that fail, with file and
+//! line.
+
+mod common;
+
+use std::collections::BTreeSet;
+use std::ops::Range;
+
+use common::document::{all, assert_none, code, Document, Part, Placed, Table};
+use reference::book::{places, Book, CIPHERTEXT};
+use reference::boxes::{self, times};
+use reference::cipher::{encipher, SUITES};
+use reference::sealing::{assembled, calls};
+use reference::state::Block;
+use reference::tables::Matrix;
+use reference::vectors::{cipher_vectors, seal_vectors, SealVector};
+use reference::writer::start;
+use sealed_book::raw;
+
+const PAGE: &str = "docs/FORMAT.md";
+
+/// Bytes as they are shown: "01 0A".
+fn spaced(bytes: &[u8]) -> String {
+    let bytes = bytes.iter().map(|byte| format!("{byte:02X}"));
+    bytes.collect::<Vec<_>>().join(" ")
+}
+
+/// The bytes of hexadecimal digits, with blanks or without.
+fn unhex(text: &str) -> Option<Vec<u8>> {
+    let digits: String = text.split_whitespace().collect();
+    let digit = |i: usize| digits.get(i..i + 2).filter(|two| !two.contains('+'));
+    let bytes = (0..digits.len()).step_by(2);
+    bytes
+        .map(|i| u8::from_str_radix(digit(i)?, 16).ok())
+        .collect()
+}
+
+/// The bytes of a cell, in backticks; an empty cell has none.
+fn cell_bytes(cell: &str) -> Option<Vec<u8>> {
+    match cell {
+        "" => Some(Vec::new()),
+        _ => code(cell).and_then(unhex),
+    }
+}
+
+/// A sealing in a book: what goes into it, and where its ciphertext and its tag stand.
+struct Sealing {
+    nonce: Vec<u8>,
+    header: Vec<u8>,
+    text: Vec<u8>,
+    ciphertext: usize,
+    tag: usize,
+}
+
+/// A book as the second implementation writes it, and the unit count and call total that are stated of it.
+struct Example {
+    suite: (u8, u8),
+    bytes: Vec<u8>,
+    sealings: Vec<Sealing>,
+    units: u64,
+    calls: u64,
+}
+
+/// The bytes that the second implementation's writer leaves.
+fn written(book: &Book, len: usize) -> Vec<u8> {
+    let mut buffer = vec![0; len];
+    let (mut writer, mut answer) =
+        start(book.cipher, book.steps, &book.key, book.number, &mut buffer);
+    for unit in &book.units {
+        assert_eq!(answer, Ok(()));
+        (writer, answer) = writer.add(&mut buffer, unit.from, unit.to, &unit.source, &unit.target);
+    }
+    assert_eq!(answer, Ok(()));
+    (writer, answer) = writer.close(&mut buffer);
+    assert_eq!((answer, writer.place), (Ok(()), len as u64));
+    buffer
+}
+
+/// The sealings of a book of the first kind. "The nonce is the book number and the unit number in 4 bytes (the count, at
+/// the close). The header sealed along is fields 01, 02 and 10 (25 bytes) or 20 (21 bytes)."
+fn sealings(book: &Book, bytes: &[u8]) -> Vec<Sealing> {
+    let sealing = |(number, at): (usize, usize)| {
+        let unit = book.units.get(number);
+        let field = if unit.is_some() { 9 } else { 5 };
+        let text = unit.map_or_else(Vec::new, |unit| unit.text());
+        // in front of the tag, and of a ciphertext, stand a field's tag and length
+        let ciphertext = at + unit.map_or(field, |_| CIPHERTEXT);
+        Sealing {
+            nonce: [
+                &book.number.to_be_bytes()[..],
+                &(number as u32).to_be_bytes(),
+            ]
+            .concat(),
+            header: [&bytes[..16], &bytes[at..at + field]].concat(),
+            tag: ciphertext + text.len() + 3,
+            ciphertext,
+            text,
+        }
+    };
+    places(book).into_iter().enumerate().map(sealing).collect()
+}
+
+/// Known value 8: "Book 7, Scream 10 steps, .. with s 5, t 6 and a close it has 84 bytes, 7 calls."
+fn known_value_8(key: Block) -> Example {
+    let book = Book::known(key);
+    let bytes = written(&book, 84);
+    Example {
+        suite: (book.cipher, book.steps),
+        sealings: sealings(&book, &bytes),
+        bytes,
+        units: 1,
+        calls: 7,
+    }
+}
+
+/// A section of a document that shows an example.
+struct Shown<'a> {
+    document: &'a Document,
+    key: Block,
+    book: &'a Table,
+    calls: &'a Table,
+    /// The parts of each sealing, as far as they are shown.
+    parts: Vec<&'a Table>,
+}
+
+/// The first code in a section that is 32 hexadecimal digits.
+fn shown_key(document: &Document, section: &Range<usize>) -> Result<Block, String> {
+    let parts = document.parts().into_iter();
+    let mut codes = parts.filter_map(|Placed { line, part }| match part {
+        Part::Code(code) if section.contains(&line) && !code.contains(' ') => Some(code),
+        _ => None,
+    });
+    let key = codes.find_map(|code| Block::try_from(unhex(&code)?).ok());
+    key.ok_or_else(|| document.at(section.start, "shows no key of 32 hexadecimal digits"))
+}
+
+impl<'a> Shown<'a> {
+    /// What the section under this heading shows.
+    fn under(document: &'a Document, heading: &str) -> Result<Shown<'a>, String> {
+        let section = document.under(heading)?;
+        Ok(Shown {
+            document,
+            key: shown_key(document, &section)?,
+            book: document.table_in(&section, &["at", "bytes", "what it is"])?,
+            calls: document.table_in(&section, &["call", "tweak", "block", "becomes"])?,
+            parts: document.tables_in(&section, &["part", "bytes"]),
+        })
+    }
+
+    /// What is wrong with the rows of the book: each stands at its place, and has the example's bytes there.
+    fn wrong_book(&self, example: &Example) -> Vec<String> {
+        let mut failures = Vec::new();
+        let mut bytes = Vec::new();
+        for row in &self.book.rows {
+            let at = bytes.len();
+            let [place, shown, what] = &row.cells[..] else {
+                failures.push(self.document.at(row.line, "has not three cells"));
+                continue;
+            };
+            let shown = cell_bytes(shown).unwrap_or_default();
+            bytes.extend(&shown);
+            let due = &example.bytes[at.min(example.bytes.len())..];
+            if *place != at.to_string() {
+                failures.push(self.document.at(row.line, format!("begins at {at}")));
+            }
+            if shown.is_empty() || what.is_empty() {
+                failures.push(
+                    self.document
+                        .at(row.line, "shows no bytes, or says not what"),
+                );
+            } else if !due.starts_with(&shown) {
+                let due = spaced(&due[..due.len().min(shown.len())]);
+                failures.push(
+                    self.document
+                        .at(row.line, format!("the book has `{due}` here")),
+                );
+            }
+        }
+        if bytes.len() != example.bytes.len() {
+            let what = format!("{} bytes, of {}", bytes.len(), example.bytes.len());
+            failures.push(self.document.at(self.book.line, what));
+        }
+        failures.extend(self.not_accepted(&bytes, example));
+        failures
+    }
+
+    /// Whether the library answers the bytes otherwise than is stated.
+    fn not_accepted(&self, bytes: &[u8], example: &Example) -> Option<String> {
+        let stated = raw::Checked {
+            units: example.units,
+            calls: example.calls,
+        };
+        let answer = raw::check(&self.key, bytes);
+        let what = format!("check says {answer:?}");
+        (answer != Ok(stated)).then(|| self.document.at(self.book.line, what))
+    }
+
+    /// The tweak, the block and what it becomes, of each row of the calls.
+    fn shown_calls(&self) -> Result<Vec<[Block; 3]>, String> {
+        let rows = self.calls.rows.iter().map(|row| {
+            let blocks = row.cells[1..].iter();
+            let blocks: Option<Vec<Block>> = blocks
+                .map(|cell| cell_bytes(cell)?.try_into().ok())
+                .collect();
+            let three = blocks.and_then(|blocks| blocks.try_into().ok());
+            three.ok_or_else(|| self.document.at(row.line, "has not three times 16 bytes"))
+        });
+        rows.collect()
+    }
+
+    /// What is wrong with the calls, one by one: they are numbered from 1, the cipher makes of each block what is shown,
+    /// and no two tweaks are the same.
+    fn wrong_calls(&self, shown: &[[Block; 3]], example: &Example) -> Vec<String> {
+        let (cipher, steps) = example.suite;
+        let mut failures = Vec::new();
+        let mut tweaks = BTreeSet::new();
+        for ((number, row), [tweak, block, becomes]) in (1..).zip(&self.calls.rows).zip(shown) {
+            let mut fail = |what: String| failures.push(self.document.at(row.line, what));
+            let told = row.cells[0].split(|c: char| !c.is_ascii_digit()).next();
+            if told.is_some_and(|told| !told.is_empty() && told != number.to_string()) {
+                fail(format!("is call {number}"));
+            }
+            let enciphered =
+                encipher(cipher, steps, &self.key, tweak, block).expect("a listed suite");
+            if enciphered != *becomes {
+                fail(format!("the block becomes `{}`", spaced(&enciphered)));
+            }
+            if !tweaks.insert(tweak) {
+                fail("this tweak stands above already".to_string());
+            }
+        }
+        failures
+    }
+
+    /// What is wrong with the calls as those of the book's sealings: tweaks and blocks are those of the call lists, and
+    /// ciphertext and tag in the book are put together from what they become.
+    fn wrong_sealings(&self, shown: &[[Block; 3]], example: &Example) -> Vec<String> {
+        let mut failures = Vec::new();
+        let mut rows = self.calls.rows.iter().zip(shown);
+        for sealing in &example.sealings {
+            let list = calls(&sealing.nonce, &sealing.header, &sealing.text);
+            let own: Vec<_> = rows.by_ref().take(list.len()).collect();
+            for ((row, [tweak, block, _]), call) in own.iter().zip(&list) {
+                if (*tweak, *block) != (call.tweak, call.block) {
+                    let due = format!("`{}`, `{}`", spaced(&call.tweak), spaced(&call.block));
+                    failures.push(self.document.at(row.line, format!("{due} is due")));
+                }
+            }
+            let line = own.last().map_or(self.calls.line, |(row, _)| row.line);
+            let becomes: Vec<Block> = own.iter().map(|(_, [_, _, becomes])| *becomes).collect();
+            let sealed = assembled(&list, &becomes, &sealing.text);
+            failures.extend(self.not_following(line, &sealed, sealing, example));
+        }
+        if shown.len() as u64 != example.calls {
+            let what = format!("{} calls, of {}", shown.len(), example.calls);
+            failures.push(self.document.at(self.calls.line, what));
+        }
+        failures
+    }
+
+    /// Whether sealed bytes that end with the call on this line are not those in the book.
+    fn not_following(
+        &self,
+        line: usize,
+        sealed: &[u8],
+        sealing: &Sealing,
+        example: &Example,
+    ) -> Option<String> {
+        let part = |at: usize, len: usize| &example.bytes[at..at + len];
+        let ciphertext = part(sealing.ciphertext, sealing.text.len());
+        let follows = sealed == [ciphertext, part(sealing.tag, 16)].concat();
+        let what = format!(
+            "from the calls up to here follows `{}`, and is not in the book",
+            spaced(sealed)
+        );
+        (!follows).then(|| self.document.at(line, what))
+    }
+
+    /// What is wrong with the tables of parts, the first of which is of the first sealing, and so on.
+    fn wrong_parts(&self, example: &Example) -> Vec<String> {
+        let mut failures = Vec::new();
+        for (i, table) in self.parts.iter().enumerate() {
+            let sealing = example.sealings.get(i);
+            for row in &table.rows {
+                let due = sealing.and_then(|sealing| part_of(sealing, &row.cells[0]));
+                let shown = row.cells.get(1).and_then(|cell| cell_bytes(cell));
+                if shown.as_ref() != due {
+                    let due = due
+                        .map_or_else(|| "no part".to_string(), |due| format!("`{}`", spaced(due)));
+                    failures.push(self.document.at(row.line, format!("is {due}")));
+                }
+            }
+        }
+        failures
+    }
+}
+
+/// The part of a sealing that a row is said to have.
+fn part_of<'a>(sealing: &'a Sealing, name: &str) -> Option<&'a Vec<u8>> {
+    match name {
+        "nonce" => Some(&sealing.nonce),
+        "header sealed along" => Some(&sealing.header),
+        "text" => Some(&sealing.text),
+        _ => None,
+    }
+}
+
+/// What is wrong with the example in the section under a heading, which is made of the key that is shown there.
+fn wrong_example(
+    document: &Document,
+    heading: &str,
+    example: impl Fn(Block) -> Example,
+) -> Result<Vec<String>, String> {
+    let shown = Shown::under(document, heading)?;
+    let calls = shown.shown_calls()?;
+    let example = example(shown.key);
+    Ok([
+        shown.wrong_book(&example),
+        shown.wrong_calls(&calls, &example),
+        shown.wrong_sealings(&calls, &example),
+        shown.wrong_parts(&example),
+    ]
+    .concat())
+}
+
+#[test]
+fn worked_example() {
+    let document = Document::read(PAGE);
+    let failures = wrong_example(&document, "## An example", known_value_8);
+    assert_none(&all(failures));
+}
+
+/// The words that the 16 words of a single bit become.
+fn words(matrix: &Matrix) -> String {
+    let words = (0..16).map(|bit| format!("{:04X}", times(matrix, 1 << bit)));
+    words.collect::<Vec<_>>().join(" ")
+}
+
+/// The tables of the ciphers, each under its name: the L-boxes in one block, the S-boxes in the next.
+#[test]
+fn tables_of_the_ciphers() {
+    let document = Document::read(PAGE);
+    let section = document.under("## The ciphers").expect("the section");
+    let [scream, iscream] = [boxes::scream(), boxes::iscream()];
+    let due = [
+        format!(
+            "Scream {} Scream, inverse {} iScream {}",
+            words(&scream.l),
+            words(&scream.l_inverse),
+            words(&iscream.l)
+        ),
+        format!("Scream {} iScream {}", spaced(scream.s), spaced(iscream.s)),
+    ];
+    let fences = document.fences.iter();
+    let fences = fences.filter(|fence| section.contains(&fence.line));
+    let shown: Vec<String> = fences.map(|fence| fence.lines.join(" ")).collect();
+    assert_eq!(shown, due);
+}
+
+/// "A block of zeros", under each suite: what the vectors of another implementation have.
+#[test]
+fn a_block_of_zeros() {
+    let document = Document::read(PAGE);
+    let table = document.table(&["suite", "becomes"]).expect("the table");
+    let vectors = cipher_vectors();
+    let zeros = [[0; 16]; 3];
+    for (i, (cipher, steps)) in SUITES.into_iter().enumerate() {
+        let name = format!("{} {steps}", ["Scream", "iScream"][usize::from(cipher - 1)]);
+        let mut vectors = vectors.iter();
+        let vector = vectors.find(|vector| {
+            (vector.cipher, vector.steps) == (cipher, steps)
+                && [vector.key, vector.tweak, vector.block] == zeros
+        });
+        let becomes = spaced(&vector.expect("a vector of zeros").enciphered);
+        assert_eq!(table.rows[i].cells, [name, format!("`{becomes}`")]);
+    }
+    assert_eq!(table.rows.len(), SUITES.len());
+}
+
+/// "A longer seal" is a case of the vectors of another implementation.
+#[test]
+fn a_longer_seal() {
+    let document = Document::read(PAGE);
+    let section = document.under("## A longer seal").expect("the section");
+    let table = document
+        .table_in(&section, &["part", "bytes"])
+        .expect("the table");
+    let shown: Vec<Vec<u8>> = table
+        .rows
+        .iter()
+        .map(|row| cell_bytes(&row.cells[1]).expect("bytes"))
+        .collect();
+    let names: Vec<&str> = table.rows.iter().map(|row| row.cells[0].as_str()).collect();
+    assert_eq!(
+        names,
+        [
+            "key",
+            "nonce",
+            "header sealed along",
+            "text",
+            "ciphertext",
+            "tag"
+        ]
+    );
+    // "Sealed by iScream with 12 steps: the last block of the text is full, .. It takes 7 calls."
+    let is_shown = |vector: &SealVector| {
+        let sealed = vector.sealed.split_at(vector.text.len());
+        let parts = [
+            &vector.key[..],
+            &vector.nonce,
+            &vector.header,
+            &vector.text,
+            sealed.0,
+            sealed.1,
+        ];
+        (vector.cipher, vector.steps, vector.calls) == (2, 12, 7)
+            && vector.text.len() % 16 == 0
+            && shown == parts
+    };
+    assert!(
+        seal_vectors().iter().any(is_shown),
+        "it is no case of the vectors"
+    );
+}
