@@ -41,9 +41,13 @@ static uint32_t refused(const char *call, uint32_t number) {
     return number;
 }
 
-/* Writes the book, and hands out its receipt. Its number must be one never used before under the key. */
-static uint32_t write_book(uint8_t *book, size_t room, struct receipt *receipt) {
-    uint8_t writer[SB_WRITER_LEN];
+/* Writes zeros that the compiler does not leave out, as it may leave out a memset. */
+static void clear(uint8_t *bytes, size_t len) {
+    for (volatile uint8_t *byte = bytes; len > 0; len--) *byte++ = 0;
+}
+
+/* Writes the book. Its number must be one never used before under the key. */
+static uint32_t write_units(uint8_t writer[SB_WRITER_LEN], uint8_t *book, size_t room) {
     uint32_t no = sb_start(SB_SCREAM, 10, key, sizeof key, 1, book, room, writer);
     if (no != 0) return refused("sb_start", no);
     for (size_t i = 0; i < COUNT; i++) {
@@ -53,12 +57,18 @@ static uint32_t write_book(uint8_t *book, size_t room, struct receipt *receipt) 
         if (no != 0) return refused("sb_add", no);
     }
     no = sb_close(writer, book, room);
-    if (no != 0) return refused("sb_close", no);
+    return no == 0 ? 0 : refused("sb_close", no);
+}
+
+/* Writes the book, and hands out its receipt. */
+static uint32_t write_book(uint8_t *book, size_t room, struct receipt *receipt) {
+    uint8_t writer[SB_WRITER_LEN];
+    uint32_t no = write_units(writer, book, room);
     receipt->bytes = sb_place(writer);
     receipt->units = sb_units(writer);
     receipt->calls = sb_calls(writer);
-    memset(writer, 0, sizeof writer); /* it holds the key */
-    return 0;
+    clear(writer, sizeof writer); /* it holds the key */
+    return no;
 }
 
 static void print_unit(const char *name, uint64_t k, const uint8_t *out, uint64_t source_len, uint64_t target_len) {
@@ -107,7 +117,7 @@ static uint32_t read_clear(const uint8_t *book, size_t len, size_t *ciphertext) 
 }
 
 int main(void) {
-    size_t segments = 0, len = 0, ciphertext;
+    size_t segments = 0, len = 0, ciphertext = 0;
     struct receipt receipt;
     for (size_t i = 0; i < COUNT; i++) segments += strlen(units[i].source) + strlen(units[i].target);
     size_t room = SB_BOOK_ROOM(COUNT, segments);

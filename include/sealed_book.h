@@ -165,7 +165,8 @@ uint32_t sb_open(uint8_t cipher, uint8_t steps, const uint8_t *key, size_t key_l
  *   48..55  call total: the number of cipher calls made for the book
  *   56..63  not used, likewise
  * sb_add and sb_close take any 64 bytes and read these fields from them, so bytes that are no valid writer are refused with 9 and
- * do no harm. So are 64 zero bytes, which a refused sb_start leaves. The writer holds the key: clear it when the book is done.
+ * do no harm. So are 64 zero bytes, which a refused sb_start leaves. The writer holds the key: clear it when the book is
+ * done, by means that the compiler does not leave out (explicit_bzero).
  *
  * The receipt: without the key, who knows some of the text of a unit (16 bytes can be enough) can make it shorter, and so can
  * anybody where two equal blocks of 16 bytes stand right before its last one, as in a row of dots; and sb_check accepts the book

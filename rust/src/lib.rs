@@ -12,6 +12,7 @@
 //!
 //! # fn main() -> Result<(), Box<dyn std::error::Error>> {
 //! # let key = [7; 16];
+//! // in a function that returns Result<_, Box<dyn std::error::Error>>
 //! // key: 16 secret bytes; no other book under it has the number 7
 //! let mut writer = Writer::start(Suite::SCREAM_10, &key, 7)?;
 //! writer.add("en", "de", "Hold the button down.", "Halten Sie die Taste.")?;
@@ -19,6 +20,7 @@
 //! let (bytes, receipt) = writer.close()?; // the receipt goes another way than the bytes
 //!
 //! let book = Book::check_receipt(&key, bytes, &receipt)?; // all of it, or a refusal
+//! assert_eq!(book.number(), 7);
 //! assert_eq!(book.fetch(1)?.target_text()?, "Maintenez le bouton.");
 //! for unit in &book {
 //!     println!("{}", unit?.source_text()?);

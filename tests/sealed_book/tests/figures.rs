@@ -10,6 +10,7 @@ use common::document::{
     all, assert_none, behind_marker, code, date, one, parts_of, rising_dates, Document, Heading,
     Kind, Part, Placed, Row, Source, Table,
 };
+use sealed_book::Refusal;
 
 /// A figure, and where it stands.
 struct Figure {
@@ -460,6 +461,21 @@ fn refusals() {
     assert_eq!(refusals_named(&header).len(), 16, "refusals were found");
     let document = Document::read("docs/REFUSALS.md");
     assert_none(&all(wrong_refusals(&document, &header)));
+}
+
+/// The names of the refusals in Rust.
+#[test]
+fn refusals_in_rust() {
+    let document = Document::read("docs/REFUSALS.md");
+    let header = ["number", "in Rust", "what it is likely to be"];
+    let table = document.table(&header).expect("the table");
+    for (number, row) in (1..).zip(&table.rows) {
+        let refusal = Refusal::from_number(number).expect("a refusal");
+        let due = [number.to_string(), format!("`{refusal:?}`")];
+        assert_eq!(row.cells[..2], due, "{}", document.at(row.line, "differs"));
+    }
+    let next = table.rows.len() as u32 + 1;
+    assert_eq!(Refusal::from_number(next), None, "refusal {next}");
 }
 
 /// The functions that return the number of a refusal and do not say which, or say so and return none.
