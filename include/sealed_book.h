@@ -27,8 +27,8 @@
 extern "C" {
 #endif
 
-/* The version of these declarations, N of the library's version 0.N.x. It moves whenever one of them changes its meaning; an
- * archive goes with the header of its own version only. CHANGELOG.md has what changed.
+/* The version of these declarations, N of the library's version 0.N.x. It moves whenever one of them changes its meaning, or a
+ * program in Rust has to change; an archive goes with the header of its own version only. CHANGELOG.md has what changed.
  *   1  headers that do not define it
  *   2  sb_fetch_at has one more parameter at its end, *next */
 #define SB_VERSION 2
@@ -164,9 +164,9 @@ uint32_t sb_open(uint8_t cipher, uint8_t steps, const uint8_t *key, size_t key_l
  *   40..47  unit count
  *   48..55  call total: the number of cipher calls made for the book
  *   56..63  not used, likewise
- * sb_add and sb_close take any 64 bytes and read these fields from them, so bytes that are no valid writer are refused with 9 and
- * do no harm. So are 64 zero bytes, which a refused sb_start leaves. The writer holds the key: clear it when the book is
- * done, by means that the compiler does not leave out (explicit_bzero).
+ * sb_add and sb_close take any 64 bytes and read these fields from them. Bytes that hold no valid writer are refused with 9, as
+ * are the 64 zero bytes that a refused sb_start leaves. Changed bytes that hold one are taken as they are: nobody may change them.
+ * The writer holds the key: clear it when the book is done, by means that the compiler does not leave out (explicit_bzero).
  *
  * The receipt: without the key, who knows some of the text of a unit (16 bytes can be enough) can make it shorter, and so can
  * anybody where two equal blocks of 16 bytes stand right before its last one, as in a row of dots; and sb_check accepts the book
@@ -204,9 +204,9 @@ uint32_t sb_close(uint8_t writer[SB_WRITER_LEN], uint8_t *buf, size_t buf_len);
 
 /* Checks a whole book, from its first byte to its last, under its key of 16 bytes: accepts it where sb_start, sb_add for each unit
  * and sb_close under this key can have written it, and refuses any other bytes. Only reads. *units is then the number of units,
- * *calls the number of cipher calls that it took to write the book: the numbers that sb_units and sb_calls gave of its writer.
- * Compare these and book_len with the receipt (above): only then it is known that no text was made shorter on the way. A slice of
- * length 0 may be null.
+ * *calls the number of cipher calls that it takes to write these bytes: what sb_units and sb_calls give of a writer that leaves
+ * them. Of a book that was made shorter on the way these are not its maker's numbers: compare them and book_len with the receipt
+ * (above). A slice of length 0 may be null.
  * Refusals, the first that applies in the order of the bytes: 2; 14 of the opening fields; 1; of each unit 14 of its number and
  * languages' field, 13, 15, 11, 14 of its ciphertext's and tag's fields, 8, 12; of the close 14 of its fields, 15, 8, and 14 for
  * bytes left over. Then *units and *calls are as they were. */

@@ -671,12 +671,14 @@ fn lost_names(document: Document) -> (Vec<String>, usize) {
     (names.failures, names.seen)
 }
 
-/// Every name in PROOFS that stands before a link is defined there.
+/// Every name in PROOFS and SECURITY that stands before a link is defined there.
 #[test]
 fn proofs() {
-    let (failures, seen) = lost_names(Document::read("docs/PROOFS.md"));
-    assert!(seen > 10, "names were found");
-    assert_none(&failures);
+    for (name, least) in [("docs/PROOFS.md", 20), ("docs/SECURITY.md", 1)] {
+        let (failures, seen) = lost_names(Document::read(name));
+        assert!(seen >= least, "{name}: names were found");
+        assert_none(&failures);
+    }
 }
 
 /// Lines without the indentation that they share, and without blanks at their ends.

@@ -10,7 +10,7 @@ use common::document::{
     all, assert_none, behind_marker, code, date, one, parts_of, rising_dates, Document, Heading,
     Kind, Part, Placed, Row, Source, Table,
 };
-use sealed_book::Refusal;
+use sealed_book::{raw, Refusal};
 
 /// A figure, and where it stands.
 struct Figure {
@@ -606,4 +606,51 @@ fn wrong_quotients(document: &Document) -> Vec<String> {
 #[test]
 fn speed() {
     assert_none(&wrong_quotients(&Document::read("docs/SPEED.md")));
+}
+
+/// A number with commas, as documents have it.
+fn grouped(number: usize) -> String {
+    let digits = number.to_string();
+    let mut text = String::new();
+    for (i, digit) in digits.chars().enumerate() {
+        if i > 0 && (digits.len() - i) % 3 == 0 {
+            text.push(',');
+        }
+        text.push(digit);
+    }
+    text
+}
+
+/// The limits that the README states are those of the header, and of the program for the shell.
+#[test]
+fn limits() {
+    let readme = Source::read("README.md");
+    let words: Vec<&str> = readme.text.split_whitespace().collect();
+    let text = words.join(" ");
+    let segment = grouped(raw::SEGMENT_MAX);
+    let longest = "longestBook = ";
+    let line = Source::read("crates/check_book/specs/Line.antt");
+    let book = line.text.split_once(longest).expect(longest).1;
+    let book: String = book.chars().take_while(char::is_ascii_digit).collect();
+    let due = [
+        format!(
+            "A source has 1 to {segment} bytes, about {} Chinese",
+            grouped(raw::SEGMENT_MAX / 3)
+        ),
+        format!("; a target 0 to {segment}."),
+        format!(
+            "codes of {} letters",
+            ["no", "one", "two", "three"][raw::CODE_LEN]
+        ),
+        format!("at most {} units", grouped(raw::UNITS_MAX as usize)),
+        format!(
+            "It takes {} bytes, and {} for each unit",
+            raw::book_room(0, 0),
+            raw::unit_room(0, 0)
+        ),
+        format!("up to {} bytes", grouped(book.parse().expect("a number"))),
+    ];
+    let failures = due.iter().filter(|due| !text.contains(*due));
+    let failures = failures.map(|due| readme.at(1, format!("does not say \"{due}\"")));
+    assert_none(&failures.collect::<Vec<_>>());
 }

@@ -11,7 +11,7 @@ use common::document::{all, assert_none, code, Document, Part, Placed, Table};
 use reference::book::{places, Book, CIPHERTEXT};
 use reference::boxes::{self, times};
 use reference::cipher::{encipher, SUITES};
-use reference::sealing::{assembled, calls};
+use reference::sealing::{assembled, calls, tweak, Place};
 use reference::state::Block;
 use reference::tables::Matrix;
 use reference::vectors::{cipher_vectors, seal_vectors, SealVector};
@@ -422,4 +422,108 @@ fn a_longer_seal() {
         seal_vectors().iter().any(is_shown),
         "it is no case of the vectors"
     );
+}
+
+/// The value of a cell as "12", "m" or "12 + m".
+fn value(cell: &str, letters: &[(&str, usize)]) -> usize {
+    let known = |word: &str| letters.iter().find(|(letter, _)| *letter == word);
+    cell.split(" + ")
+        .map(|word| known(word).map_or_else(|| word.parse().expect(word), |(_, value)| *value))
+        .sum()
+}
+
+/// Holds a table of the layout to bytes that are laid out so: its rows lie one behind the other from the first byte to
+/// the last, and where a row begins with bytes these stand there.
+fn assert_laid_out(document: &Document, table: &Table, bytes: &[u8], letters: &[(&str, usize)]) {
+    let mut at = 0;
+    for row in &table.rows {
+        let [place, len] = [0, 1].map(|i| value(&row.cells[i], letters));
+        assert_eq!(place, at, "{}", document.at(row.line, "its place"));
+        at += len;
+        let told = row.cells[2]
+            .strip_prefix('`')
+            .and_then(|rest| rest.split_once('`'));
+        if let Some((told, _)) = told {
+            let there = spaced(&bytes[place..at]);
+            assert_eq!(told, there, "{}", document.at(row.line, "its bytes"));
+        }
+    }
+    assert_eq!(at, bytes.len(), "{}", document.at(table.line, "its end"));
+}
+
+/// The tables of the layout, on the book of the worked example: opening fields, a unit, the close, and a unit's text.
+#[test]
+fn layout() {
+    let document = Document::read(PAGE);
+    let example = known_value_8([7; 16]);
+    let header = ["at", "bytes", "what it is"];
+    let tables = |heading| document.tables_in(&document.under(heading).expect(heading), &header);
+    let [opening, unit, close] = tables("## A book, byte by byte")[..] else {
+        panic!("three tables");
+    };
+    let [text] = tables("## What is sealed")[..] else {
+        panic!("one table");
+    };
+    let sealing = &example.sealings[0];
+    let m = sealing.text.len();
+    let places = places(&Book::known([7; 16]));
+    let laid_out = |table, range: Range<usize>| {
+        assert_laid_out(&document, table, &example.bytes[range], &[("m", m)]);
+    };
+    laid_out(opening, 0..places[0]);
+    laid_out(unit, places[0]..places[1]);
+    laid_out(close, places[1]..example.bytes.len());
+    assert_laid_out(&document, text, &sealing.text, &[("s", 5), ("t", 6)]);
+
+    let kinds = document.table(&[
+        "kind",
+        "tag of a unit",
+        "tag of the close",
+        "units at most",
+        "written by",
+    ]);
+    let [kind] = &kinds.expect("the table of kinds").rows[..] else {
+        panic!("one kind");
+    };
+    let tags = [places[0], places[1]].map(|at| format!("{:02X}", example.bytes[at]));
+    let due = [
+        tags[0].clone(),
+        format!("`{}`", tags[0]),
+        format!("`{}`", tags[1]),
+    ];
+    assert_eq!(kind.cells[..3], due);
+    assert_eq!(kind.cells[3].replace(',', ""), raw::UNITS_MAX.to_string());
+}
+
+/// The table of the tweaks: the byte behind the nonce of each.
+#[test]
+fn tweaks() {
+    let document = Document::read(PAGE);
+    let table = document.table(&["for", "the 16 − n bytes behind the nonce"]);
+    let due = [
+        ("text block i, not the last", Place::Text(0)),
+        ("header block i, not the last", Place::Header(0)),
+        ("last header block, full", Place::HeaderLastFull),
+        ("last header block, partial", Place::HeaderLastPartial),
+        ("last text block, full", Place::TextLastFull),
+        ("last text block, partial", Place::TextLastPartial),
+        ("the tag, text with a full last block", Place::TagAfterFull),
+        (
+            "the tag, text with a partial last block or empty",
+            Place::TagAfterPartial,
+        ),
+    ];
+    let rows = &table.expect("the table").rows;
+    assert_eq!(rows.len(), due.len());
+    for (row, (name, place)) in rows.iter().zip(due) {
+        let mark = tweak(&[0; 12], place)[12];
+        let told = row.cells[1].split('`').nth(1).unwrap_or("00");
+        let told = (row.cells[0].as_str(), u8::from_str_radix(told, 16));
+        assert_eq!(
+            told,
+            (name, Ok(mark)),
+            "{}",
+            document.at(row.line, "differs")
+        );
+    }
 }
