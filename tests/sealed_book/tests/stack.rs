@@ -115,44 +115,21 @@ fn sealing(most: &mut Most, random: &mut Random) {
             let (key, nonce, header) = (key.as_ptr(), nonce.as_ptr(), header.as_ptr());
             let (text, body, out) = (text.as_ptr(), sealed.as_mut_ptr(), opened.as_mut_ptr());
             let (len, calls): (*mut u64, *mut u64) = (&mut len, &mut calls);
+            // what both calls are given first
+            macro_rules! call {
+                ($function:ident, $($rest:expr),*) => {
+                    $function(cipher, steps, key, 16, nonce, 12, header, a, $($rest),*)
+                };
+            }
             // SAFETY: each slice is given with its length, and the numbers are there.
             let returned = most.measure("sb_seal", || unsafe {
-                sb_seal(
-                    cipher,
-                    steps,
-                    key,
-                    16,
-                    nonce,
-                    12,
-                    header,
-                    a,
-                    text,
-                    m,
-                    body,
-                    m + 16,
-                    len,
-                    calls,
-                )
+                call!(sb_seal, text, m, body, m + 16, len, calls)
             });
             assert_eq!(returned, u32::from(cipher == 0));
             for refused in [0, 8] {
                 // SAFETY: the same.
                 let returned = most.measure("sb_open", || unsafe {
-                    sb_open(
-                        cipher,
-                        steps,
-                        key,
-                        16,
-                        nonce,
-                        12,
-                        header,
-                        a,
-                        body,
-                        m + 16,
-                        out,
-                        m,
-                        len,
-                    )
+                    call!(sb_open, body, m + 16, out, m, len)
                 });
                 assert_eq!(returned, if cipher == 0 { 1 } else { refused });
                 sealed[m] ^= 1;
