@@ -45,6 +45,8 @@ extern "C" {
 #define SB_CODE_LEN 2       /* what sb_add reads of each language code */
 #define SB_CODE_ROOM 4      /* room for a language code that is handed out */
 #define SB_FIRST_UNIT 16    /* where unit 0 begins in a book, or the close of a book without units */
+#define SB_ROW_LEN 12       /* a row of a page, which has one for each unit */
+#define SB_SCORE_MAX 1000   /* a score at most: that of a segment and itself */
 
 /* How many bytes of a book a unit takes, how many the close does, and how many a book takes in all that has so many units with
  * so many bytes in their sources and targets together. */
@@ -233,6 +235,23 @@ uint32_t sb_fetch(const uint8_t *key, size_t key_len, const uint8_t *book, size_
  * Refusals: those of sb_fetch without the units before k. Then out, *source_len, *target_len and *next are as they were. */
 uint32_t sb_fetch_at(const uint8_t *key, size_t key_len, const uint8_t *book, size_t book_len, uint64_t number, size_t at,
                      uint8_t *out, size_t out_len, uint64_t *source_len, uint64_t *target_len, uint64_t *next);
+
+/* How alike two segments are, of any length, empty ones too: 0 to SB_SCORE_MAX, and the same both ways round. A segment has a
+ * run of three bytes from each place on but its last two, so p runs and q; c of them are shared, each counted as often as both
+ * have it. The score is 2,000 * c / (p + q), rounded down; where p + q is 0, 1,000 for equal segments and 0 for others. Bytes are
+ * compared, whatever they mean: a letter of two bytes is two, and a capital is another letter. Only reads. A slice of length 0 may
+ * be null. Nothing is refused. */
+uint32_t sb_score(const uint8_t *source, size_t source_len, const uint8_t *typed, size_t typed_len);
+
+/* Compares a typed sentence of any length, also an empty one, with every unit of a book under its key of 16 bytes: writes a row for
+ * each unit, in the order of the book, to the start of page, and leaves every other byte of page as it was. *len is then
+ * SB_ROW_LEN times the number of units. A row is the length of the source in bytes, right-aligned in 5 columns, two blanks,
+ * sb_score of the source and the typed sentence, right-aligned in 4 columns, and a line feed: "    5   857\n" of the source "valve" and the
+ * typed sentence "valves". The whole book is checked as by sb_check before anything is written; compare it with its receipt (above)
+ * first, since one that was made shorter on the way is not refused. A slice of length 0 may be null.
+ * Refusals, the first that applies: those of sb_check in their order, then 7; then page and *len are as they were. */
+uint32_t sb_page(const uint8_t *key, size_t key_len, const uint8_t *book, size_t book_len, const uint8_t *typed, size_t typed_len,
+                 uint8_t *page, size_t page_len, uint64_t *len);
 
 /* What a book says in the clear.
  *

@@ -55,7 +55,7 @@ module _ (q : BookKind) (h : History (kindOf q)) {key x : List ℕ} (l : LeavesB
       record { count = all; unit = unit-of; none = λ k past. none-of k (omega arith); part = part-of; placed = placed-of; clear = clear-of; closes = closes-of }
 
 -- check counts the units of every such list
-counted : {key x : List ℕ} → Bytes key → Bytes x → (n t : ℕ) → checkTold (checkAnswer key x) ≡ gives (n ∷ t ∷ [])
+pub counted : {key x : List ℕ} → Bytes key → Bytes x → (n t : ℕ) → checkTold (checkAnswer key x) ≡ gives (n ∷ t ∷ [])
     → (q : BookKind) (h : History (kindOf q)) → LeavesBook h key x → after h .writer .count ≡ n
 counted {key} {x} keyBytes bytes n t e q h l =
     let count = after h .writer .count in

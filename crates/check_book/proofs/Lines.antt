@@ -19,7 +19,8 @@ use Rattle.checker.specs.Check.{checkAnswer, checkAnswerOf}
 use Rattle.checker.specs.declared.check.CheckAnswer.{CheckAnswer}
 use Rattle.checker.specs.declared.check.CheckAnswer.the-variants.{Accepted, Refused}
 use Rattle.check_book.specs.Behind.{Behind}
-use Rattle.check_book.specs.Line.{ascii, answerLine, line}
+use Rattle.decimal.specs.Ascii.{ascii}
+use Rattle.check_book.specs.Line.{answerLine, line}
 
 -- s was put at the start of the part of d from a place on
 pub at-place : (at : ℕ) (s d y : List ℕ) (r : ℕ) → y ≡ s ++ drop (length s) (take (length d - at) (drop at d)) → r ≡ at + length s

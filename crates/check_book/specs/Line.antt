@@ -3,21 +3,15 @@
 -- for a longer book."
 use mathlib.Core.Bool.{cond}
 use mathlib.Core.List.{List, [], _∷_, _++_}
-use Prim.Native.Char.{code}
 use Prim.Native.Nat.{ℕ, _+_}
-use Prim.Native.String.{String, [] as end, _∷_ as _then_}
 use lib.Dec.{leb}
 use lib.ListN.{length, take, drop}
+use Rattle.decimal.specs.Ascii.{ascii}
 use Rattle.decimal.specs.Decimal.{digits}
 use Rattle.suites.specs.Refusal.{number}
 use Rattle.checker.specs.Check.{checkAnswer}
 use Rattle.checker.specs.declared.check.CheckAnswer.{CheckAnswer}
 use Rattle.checker.specs.declared.check.CheckAnswer.the-variants.{Accepted, Refused}
-
--- words as bytes, in ASCII
-abbrev pub ascii : String → List ℕ
-ascii end = []
-ascii (c then s) = code c ∷ ascii s
 
 abbrev pub longestBook : ℕ
 longestBook = 65504

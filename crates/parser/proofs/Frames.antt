@@ -334,6 +334,10 @@ unit-told kind n m s e =
     let passed = unit-passed kind n s m e in
     subst (λ (k : ℕ). UnitTold kind n k s) (passed .1) (unit-read kind n s (passed .0))
 
+-- its ciphertext has the length that field 11 states
+pub unit-length : (kind : Kind) (n m : ℕ) (s : List ℕ) → frameAt kind n s ≡ Unit m → fieldLength (afterHeader kind s) ≡ m
+unit-length kind n m s e = unit-passed kind n s m e .1
+
 -- a close's fields, likewise
 module _ (kind : Kind) (wf : WellFormed kind) (n : ℕ) (x rest : List ℕ) where
   pub close-here : n < 256 ^ kind .numberBytes → length x ≡ 16

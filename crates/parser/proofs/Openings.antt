@@ -131,7 +131,7 @@ front-says suite number h =
     )
 
 -- the first of the elements behind k
-drop-take : (k n : ℕ) (s : List ℕ) → drop k (take (k + n) s) ≡ take n (drop k s)
+pub drop-take : (k n : ℕ) (s : List ℕ) → drop k (take (k + n) s) ≡ take n (drop k s)
 drop-take zero n s = ap (λ (m : ℕ). take m s) (zero-add n)
 drop-take (suc k) n [] = ap (drop (suc k)) (take-nil (suc k + n)) ∙ sym (take-nil n)
 drop-take (suc k) n (a ∷ s) = ap (λ (m : ℕ). drop (suc k) (take m (a ∷ s))) (suc-add k n) ∙ drop-take k n s

@@ -4,7 +4,7 @@ use mathlib.Core.List.{_++_}
 use Prim.Native.Nat.{ℕ}
 use borrow.Author.Needs.{needs}
 use Rattle.decimal.specs.Decimal.{digits, AtStart}
-use Rattle.check_book.specs.Line.{ascii}
+use Rattle.decimal.specs.Ascii.{ascii}
 use Rattle.check_book.proofs.Lines.{first, then}
 use Rattle.check_book.proofs.refused.Statement.{statement}
 use Rattle.check_book.proofs.refused.Tie as tie

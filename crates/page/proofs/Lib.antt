@@ -1,0 +1,3 @@
+pub mod Pages
+pub mod Done
+pub mod Written

@@ -1,0 +1,4 @@
+pub mod Sums
+pub mod Ranges
+pub mod Counts
+pub mod Marks

@@ -1,0 +1,3 @@
+pub mod Score
+pub mod Laws
+pub mod Examples

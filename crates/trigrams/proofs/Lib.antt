@@ -1,0 +1,3 @@
+pub mod Common
+pub mod Taken
+pub mod Trigrams

@@ -1,0 +1,3 @@
+pub mod Trigrams
+pub mod Read
+pub mod Taken
