@@ -1,6 +1,7 @@
 /*
- * Scream and iScream (CAESAR version 1) in C, one block at a time, sealing over them, and the writer,
- * the checker and the fetcher of sealed books: the yardstick of the benchmark.
+ * Scream and iScream (CAESAR version 1) in C, one block at a time, sealing over them, the writer, the
+ * checker and the fetcher of sealed books, and the page that compares a sentence with a book: the
+ * yardstick of the benchmark.
  *
  * The S-boxes are bitsliced on the eight rows (Algorithms 3 and 4, and 5 with its round corrected).
  * The L-boxes go by two tables of 256 words each, one for each byte of a row. Four byte tables, as
@@ -472,6 +473,22 @@ INLINE int unseal(int cipher, int steps, const uint8_t *key, const uint8_t *nonc
     return memcmp(tag, given, 16) == 0;
 }
 
+/* Writes of a text of `len` bytes the blocks from byte `at` on, a multiple of 16, up to the one that has
+ * byte `end` - 1. */
+INLINE void unseal_some(int cipher, int steps, const uint8_t *key, const uint8_t *nonce, size_t n,
+                        const uint8_t *sealed, size_t len, size_t at, size_t end, uint8_t *text)
+{
+    uint8_t tweak[16];
+    memcpy(tweak, nonce, n);
+    for (; at < end && len - at > 16; at += 16) {
+        memcpy(text + at, sealed + at, 16);
+        set_number(tweak, n, 0, at / 16);
+        decipher_block(cipher, steps, key, tweak, text + at);
+    }
+    if (at < end)
+        last_block(cipher, steps, key, tweak, n, sealed + at, text + at, len - at);
+}
+
 static size_t limit(size_t exponent)
 {
     return (size_t)1 << (exponent < 24 ? exponent : 24);
@@ -858,5 +875,158 @@ uint32_t baseline_fetch(const uint8_t *key, size_t key_len, const uint8_t *book,
     memcpy(out, text + 2, segments);
     *source_len = s;
     *target_len = segments - s;
+    return 0;
+}
+
+/* ---- Score and page ---- */
+
+/* Three bytes as a number, plus 1, and how often a sentence has them; a place that is not taken has 0. */
+typedef struct {
+    uint32_t trigram, count;
+} place;
+
+/* The trigrams of a sentence, in twice as many places at least, of which there are 2^bits. */
+typedef struct {
+    place *places;
+    int bits;
+} trigram_table;
+
+INLINE size_t trigram_count(size_t len)
+{
+    return len < 3 ? 0 : len - 2;
+}
+
+INLINE uint32_t trigram_at(const uint8_t *at)
+{
+    return at[0] | (uint32_t)at[1] << 8 | (uint32_t)at[2] << 16;
+}
+
+/* Where this trigram stands, or the free place where it would. */
+INLINE place *find_trigram(const trigram_table *t, uint32_t trigram)
+{
+    size_t last = ((size_t)1 << t->bits) - 1;
+    size_t i = trigram * 0x85EBCA6Bu >> (32 - t->bits);
+    while (t->places[i].trigram != 0 && t->places[i].trigram != trigram + 1)
+        i = (i + 1) & last;
+    return t->places + i;
+}
+
+/* The table of a sentence's trigrams, which the caller frees. */
+static trigram_table count_trigrams(const uint8_t *typed, size_t len)
+{
+    trigram_table t = {NULL, 4};
+    size_t trigrams = trigram_count(len);
+    while (((size_t)1 << t.bits) < 2 * trigrams)
+        t.bits++;
+    t.places = calloc((size_t)1 << t.bits, sizeof *t.places);
+    if (t.places == NULL)
+        abort();
+    for (size_t i = 0; i < trigrams; i++) {
+        uint32_t trigram = trigram_at(typed + i);
+        place *p = find_trigram(&t, trigram);
+        p->trigram = trigram + 1;
+        p->count++;
+    }
+    return t;
+}
+
+/* How many trigrams both have, with the table of one and the bytes of the other. Of those that are shared one
+ * is taken from its count; `taken` has room to note them all, so that they are put back. */
+static size_t shared_trigrams(const trigram_table *t, const uint8_t *source, size_t len, place **taken)
+{
+    size_t shared = 0, trigrams = trigram_count(len);
+    for (size_t i = 0; i < trigrams; i++) {
+        place *p = find_trigram(t, trigram_at(source + i));
+        if (p->count > 0) {
+            p->count--;
+            taken[shared++] = p;
+        }
+    }
+    for (size_t i = 0; i < shared; i++)
+        taken[i]->count++;
+    return shared;
+}
+
+INLINE uint32_t score_of(size_t shared, const uint8_t *source, size_t s, const uint8_t *typed, size_t len)
+{
+    size_t trigrams = trigram_count(s) + trigram_count(len);
+    if (trigrams == 0)
+        return s == len && (s == 0 || memcmp(source, typed, s) == 0) ? 1000 : 0;
+    return (uint32_t)(2000 * shared / trigrams);
+}
+
+/* How alike two segments are, 0 to 1,000. */
+uint32_t baseline_score(const uint8_t *source, size_t s, const uint8_t *typed, size_t len)
+{
+    trigram_table t = count_trigrams(typed, len);
+    place **taken = malloc((s + 1) * sizeof *taken);
+    if (taken == NULL)
+        abort();
+    uint32_t score = score_of(shared_trigrams(&t, source, s, taken), source, s, typed, len);
+    free(taken);
+    free(t.places);
+    return score;
+}
+
+/* Writes the source of a unit that was opened before, behind two bytes, and returns its length: only the
+ * blocks that it stands in are deciphered. */
+static size_t open_source(const uint8_t *key, const uint8_t *book, uint64_t units, const unit *u,
+                          uint8_t *text)
+{
+    uint8_t nonce[12], cipher = book[14], steps = book[15];
+    size_t s;
+    put_number(put(nonce, book + 3, 8), units, 4);
+    if (cipher == SCREAM) {
+        unseal_some(SCREAM, steps, key, nonce, 12, u->ciphertext, u->m, 0, 2, text);
+        s = number_at(text);
+        unseal_some(SCREAM, steps, key, nonce, 12, u->ciphertext, u->m, 16, 2 + s, text);
+    } else {
+        unseal_some(ISCREAM, steps, key, nonce, 12, u->ciphertext, u->m, 0, 2, text);
+        s = number_at(text);
+        unseal_some(ISCREAM, steps, key, nonce, 12, u->ciphertext, u->m, 16, 2 + s, text);
+    }
+    return s;
+}
+
+/* A number, right-aligned in so many columns. */
+INLINE uint8_t *put_right(uint8_t *to, uint32_t number, size_t columns)
+{
+    memset(to, ' ', columns);
+    size_t i = columns;
+    do {
+        to[--i] = (uint8_t)('0' + number % 10);
+        number /= 10;
+    } while (number > 0);
+    return to + columns;
+}
+
+/* Compares a typed sentence with every unit of a book: 12 bytes a unit to the start of the page. Returns
+ * 0, with the page's length written, or the refusal's number. */
+uint32_t baseline_page(const uint8_t *key, size_t key_len, const uint8_t *book, size_t len,
+                       const uint8_t *typed, size_t typed_len, uint8_t *page, size_t room,
+                       uint64_t *page_len)
+{
+    uint64_t count, calls;
+    uint32_t number = baseline_check(key, key_len, book, len, &count, &calls);
+    if (number != 0)
+        return number;
+    if (room < 12 * count)
+        return 7;
+    trigram_table t = count_trigrams(typed, typed_len);
+    rest r = {book + 16, len - 16};
+    for (uint64_t units = 0; units < count; units++) {
+        uint8_t text[LONGEST_TEXT];
+        place *taken[LONGEST_SEGMENT];
+        unit u;
+        if (next_unit(&r, units, &u) != 0)
+            abort();
+        size_t s = open_source(key, book, units, &u, text);
+        size_t shared = shared_trigrams(&t, text + 2, s, taken);
+        page = put_right(page, (uint32_t)s, 5);
+        page = put_right(page, score_of(shared, text + 2, s, typed, typed_len), 6);
+        *page++ = '\n';
+    }
+    free(t.places);
+    *page_len = 12 * count;
     return 0;
 }

@@ -1,5 +1,6 @@
-/* Writes a book of three units, checks it and compares it with its receipt, fetches one unit and goes over all; then reads what
- * stands in the clear, without the key, and has the book refused with one bit changed. Prints what it did.
+/* Writes a book of three units, checks it and compares it with its receipt, fetches one unit and goes over all, and compares a
+ * sentence with each; then reads what stands in the clear, without the key, and has the book refused with one bit changed. Prints
+ * what it did.
  *
  *     cc -std=c99 -Wall -Wextra -I include examples/book.c target/staticlib/libsealed_book.a -o target/book && target/book
  */
@@ -100,6 +101,16 @@ static uint32_t read_book(const uint8_t *book, size_t len, const struct receipt 
     return no == SB_NO_UNIT ? 0 : refused("sb_fetch_at", no);
 }
 
+/* Prints the page of a typed sentence: how long each source is, and how near the sentence is to it, 0 to 1,000. */
+static uint32_t print_page(const uint8_t *book, size_t len, const char *typed) {
+    uint8_t page[COUNT * SB_ROW_LEN]; /* a row for each unit */
+    uint64_t page_len;
+    uint32_t no = sb_page(key, sizeof key, book, len, (const uint8_t *)typed, strlen(typed), page, sizeof page, &page_len);
+    if (no != 0) return refused("sb_page", no);
+    printf("page of \"%s\":\n%.*s", typed, (int)page_len, (const char *)page);
+    return 0;
+}
+
 /* Says what stands in the clear, of the book and of one unit: no key is needed, and no seal is tested. Hands out where that
  * unit's ciphertext begins. */
 static uint32_t read_clear(const uint8_t *book, size_t len, size_t *ciphertext) {
@@ -131,6 +142,7 @@ int main(void) {
                (unsigned long)receipt.calls);
         no = read_book(book, len, &receipt);
     }
+    if (no == 0) no = print_page(book, len, "Close the valves.");
     if (no == 0) no = read_clear(book, len, &ciphertext);
     if (no == 0) {
         uint64_t count, calls;

@@ -170,6 +170,44 @@ impl<B: AsRef<[u8]>> Book<B> {
         Some(&bytes[fields.ciphertext])
     }
 
+    /// Compares a typed sentence, also an empty one, with every unit: a page to be printed, with one row a unit in
+    /// the order of the book. A row is the length of the source in bytes, right-aligned in 5 columns, two blanks,
+    /// the [`score`](crate::score()) of the source and the typed sentence, right-aligned in 4 columns, and a line
+    /// feed.
+    ///
+    /// The whole book is checked once more, and then each source is opened, one after the other, in time linear in
+    /// the book's length. The page takes 12 bytes a unit.
+    ///
+    /// # Errors
+    ///
+    /// None where the bytes are those that were checked. Where `B` lends others now (above): a refusal of
+    /// [`check`](Book::check) where they are no book under this key; [`Refusal::OutputTooShort`] where they are one
+    /// with more units; and else the page is that of the book that they are.
+    ///
+    /// ```
+    /// use sealed_book::{Book, Suite, Writer};
+    ///
+    /// # fn main() -> Result<(), sealed_book::Refusal> {
+    /// # let key = [7; 16];
+    /// let mut writer = Writer::start(Suite::SCREAM_10, &key, 7)?;
+    /// writer.add("en", "de", "valve", "Ventil")?;
+    /// writer.add("en", "de", "Close the two valves.", "")?;
+    /// let (bytes, receipt) = writer.close()?;
+    ///
+    /// let book = Book::check_receipt(&key, bytes, &receipt)?;
+    /// assert_eq!(book.page("valves")?, "    5   857\n   21   347\n");
+    /// assert_eq!(book.page("")?, "    5     0\n   21     0\n");
+    /// # Ok(())
+    /// # }
+    /// ```
+    pub fn page(&self, typed: impl AsRef<[u8]>) -> Result<String, Refusal> {
+        let rows = usize::try_from(self.len()).expect("at most 65,535");
+        let mut page = vec![0; raw::ROW_LEN * rows];
+        let len = raw::page(&self.key.0, self.bytes(), typed.as_ref(), &mut page)?;
+        page.truncate(len);
+        Ok(String::from_utf8(page).expect("digits, blanks and line feeds"))
+    }
+
     /// All units in order, each opened when its turn comes, in time linear in the book's length.
     pub fn iter(&self) -> Units<'_> {
         Units {

@@ -1,6 +1,6 @@
 //! The functions of the static library, as C sees them; `include/sealed_book.h` says what each asks for.
-//! Each returns 0 or a refusal's number, but for [`sb_ciphertext`], which returns nothing, and the last
-//! three, which return a number of the writer.
+//! Each returns 0 or a refusal's number, but for [`sb_score`], which returns a score, [`sb_ciphertext`], which
+//! returns nothing, and the last three, which return a number of the writer.
 
 extern "C" {
     /// Enciphers one block.
@@ -142,6 +142,27 @@ extern "C" {
         source_len: *mut u64,
         target_len: *mut u64,
         next: *mut u64,
+    ) -> u32;
+
+    /// How alike two segments are.
+    pub fn sb_score(
+        source: *const u8,
+        source_len: usize,
+        typed: *const u8,
+        typed_len: usize,
+    ) -> u32;
+
+    /// Compares a typed sentence with every unit of a book.
+    pub fn sb_page(
+        key: *const u8,
+        key_len: usize,
+        book: *const u8,
+        book_len: usize,
+        typed: *const u8,
+        typed_len: usize,
+        page: *mut u8,
+        page_len: usize,
+        len: *mut u64,
     ) -> u32;
 
     /// Suite and book number.

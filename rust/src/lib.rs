@@ -30,6 +30,8 @@
 //! # }
 //! ```
 //!
+//! [`Book::page`] compares a typed sentence with every unit of a book, a row each, and [`score`] two segments.
+//!
 //! Where there is no receipt, [`Book::check`] does the rest: without one, a text that was made shorter on the
 //! way may be accepted ([`Receipt`] says when). [`fetch`] opens one unit of bytes that were not checked, and
 //! says what is tested then. [`info`] and [`clear_unit`] read what stands in the clear, without the
@@ -58,6 +60,7 @@ pub mod foreign;
 pub mod raw;
 mod receipt;
 mod refusal;
+mod score;
 mod sealing;
 mod secret;
 mod suite;
@@ -69,6 +72,7 @@ pub use clear::{ciphertext, clear_unit, info, ClearUnit, Info};
 pub use fetching::fetch;
 pub use receipt::{ParseReceiptError, Receipt};
 pub use refusal::Refusal;
+pub use score::score;
 pub use sealing::{open, seal};
 pub use suite::{Cipher, Suite};
 pub use unit::Unit;

@@ -2,6 +2,7 @@
 // same cases by tests/expected.
 use checker::check::CheckAnswer;
 use opening::open::OpenAnswer;
+use page::PageAnswer;
 use sealing::seal::SealAnswer;
 use suites::suite::Suite;
 use verifying::verify::VerifyAnswer;
@@ -16,6 +17,7 @@ enum Kind {
     Seal,
     Open,
     Check,
+    Page,
 }
 
 // Room for a file's bytes. Its caller's proof has the length and not the zeros: to count them would be slow.
@@ -242,6 +244,56 @@ fn run_check(s: &[u8], at: usize)
     }
 }
 
+// The number that decimal digits say, or the most that it may be.
+fn number_at(s: &[u8], at: usize, most: usize) -> usize
+    requires { ⌜ (at ≤ 262144)
+        × (most ≤ 16384) ⌝ }
+    ensures { λ r. ⌜ r ≤ most ⌝ }
+{
+    let mut n: usize = 0;
+    let mut i: usize = 0;
+    while i < 8 {
+        let c = get(s, at + i);
+        if c < 48 {
+            return n;
+        }
+        let more = 10 * n + (digit(c) as usize);
+        if most < more {
+            return most;
+        }
+        n = more;
+        i += 1;
+    }
+    n
+}
+
+// The page, made in a buffer.
+fn write_page(key: &[u8], book: &[u8], typed: &[u8], out: &mut [u8]) {
+    match page::page(key, book, typed, out) {
+        PageAnswer::Written(len) => write_bytes(out, len),
+        PageAnswer::Refused(why) => report::refusal(why),
+    }
+}
+
+// Key, book, typed sentence and how many bytes the page's buffer has: the page.
+fn run_page(s: &[u8], at: usize)
+    requires { ⌜ (at ≤ length (now s))
+        × (length (now s) ≤ 262144) ⌝ }
+{
+    let mut key = [0u8; 32];
+    let mut book = io::buffer();
+    let mut typed = io::buffer();
+    let mut out = text_room();
+    let k = decode(s, at, &mut key);
+    let at_book = behind(s, at, b' ');
+    let n = decode(s, at_book, &mut book);
+    let at_typed = behind(s, at_book, b' ');
+    let t = decode(s, at_typed, &mut typed);
+    let at_room = behind(s, at_typed, b' ');
+    let room = number_at(s, at_room, 16384);
+    write_page(&key[..k], &book[..n], &typed[..t], &mut out[..room]);
+}
+
 // The suite of a case, which is written too.
 fn suite_at(s: &[u8], at: usize) -> Suite
     requires { ⌜ at ≤ 262144 ⌝ }
@@ -254,7 +306,7 @@ fn suite_at(s: &[u8], at: usize) -> Suite
     Suite { cipher, steps }
 }
 
-// One case: the suite, but of a book that is checked, and what its file has. Fields have a blank between them.
+// One case: the suite, but of a book that is read, and what its file has. Fields have a blank between them.
 fn run_case(kind: Kind, s: &[u8], at: usize)
     requires { ⌜ (at ≤ length (now s))
         × (length (now s) ≤ 262144) ⌝ }
@@ -265,6 +317,7 @@ fn run_case(kind: Kind, s: &[u8], at: usize)
         Kind::Seal => run_tae(true, suite_at(s, at), s, next),
         Kind::Open => run_tae(false, suite_at(s, at), s, next),
         Kind::Check => run_check(s, at),
+        Kind::Page => run_page(s, at),
     }
     report::text(b"\n");
 }
@@ -300,4 +353,5 @@ fn main() {
     run_file(Kind::Seal, b"seal.txt");
     run_file(Kind::Open, b"open.txt");
     run_file(Kind::Check, b"book.txt");
+    run_file(Kind::Page, b"page.txt");
 }

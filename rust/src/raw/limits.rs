@@ -49,6 +49,12 @@ pub const CODE_ROOM: usize = 4;
 /// Where unit 0 begins in a book, or the close of a book without units.
 pub const FIRST_UNIT: usize = 16;
 
+/// How many bytes a row of a page has; a page has a row for each unit.
+pub const ROW_LEN: usize = 12;
+
+/// What a score is at most: that of a segment and itself.
+pub const SCORE_MAX: u32 = 1_000;
+
 /// How many bytes of a book the close takes.
 pub const CLOSE_ROOM: usize = 24;
 

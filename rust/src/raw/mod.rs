@@ -14,6 +14,7 @@ mod by_value;
 mod clear;
 mod code;
 mod limits;
+mod page;
 mod reading;
 mod sealing;
 mod writer;
@@ -24,8 +25,9 @@ pub use clear::{ciphertext, info, unit, unit_at, Info, Unit};
 pub use code::Code;
 pub use limits::{
     book_room, header_max, text_max, unit_room, BLOCK_LEN, CLOSE_ROOM, CODE_LEN, CODE_ROOM,
-    FIRST_UNIT, KEY_LEN, NONCE_MAX, SEGMENT_MAX, TAG_LEN, UNITS_MAX, UNIT_MAX,
+    FIRST_UNIT, KEY_LEN, NONCE_MAX, ROW_LEN, SCORE_MAX, SEGMENT_MAX, TAG_LEN, UNITS_MAX, UNIT_MAX,
 };
+pub use page::{page, score};
 pub use reading::{check, fetch, fetch_at, Checked, Fetched, FetchedAt};
 pub use sealing::{open, seal, Sealed};
 pub use writer::{add, calls, close, place, start, units, Bytes, LEN};

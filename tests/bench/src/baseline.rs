@@ -1,5 +1,5 @@
 //! A safe wrapper over bench/baseline.c. The functions on blocks say whether the suite is listed;
-//! sealing, opening, the writer, the checker and the fetcher return a refusal's number.
+//! sealing, opening, the writer, the checker, the fetcher and the page return a refusal's number.
 
 extern "C" {
     fn baseline_encipher(
@@ -110,6 +110,25 @@ extern "C" {
         out_len: usize,
         source_len: *mut u64,
         target_len: *mut u64,
+    ) -> u32;
+
+    fn baseline_score(
+        source: *const u8,
+        source_len: usize,
+        typed: *const u8,
+        typed_len: usize,
+    ) -> u32;
+
+    fn baseline_page(
+        key: *const u8,
+        key_len: usize,
+        book: *const u8,
+        len: usize,
+        typed: *const u8,
+        typed_len: usize,
+        page: *mut u8,
+        room: usize,
+        page_len: *mut u64,
     ) -> u32;
 }
 
@@ -391,6 +410,34 @@ pub fn fetch(key: &[u8], book: &[u8], k: u64, out: &mut [u8]) -> Result<(usize, 
         )
     };
     answer(number).map(|()| (source as usize, target as usize))
+}
+
+/// How alike two segments are.
+#[inline]
+pub fn score(source: &[u8], typed: &[u8]) -> u32 {
+    // SAFETY: each slice is given with its length, and both are only read.
+    unsafe { baseline_score(source.as_ptr(), source.len(), typed.as_ptr(), typed.len()) }
+}
+
+/// Writes a row for each unit at the start of `page`, and returns their length.
+#[inline]
+pub fn page(key: &[u8], book: &[u8], typed: &[u8], page: &mut [u8]) -> Result<usize, u32> {
+    let mut len = 0;
+    // SAFETY: each slice is given with its length, and only `page` and the number are written.
+    let number = unsafe {
+        baseline_page(
+            key.as_ptr(),
+            key.len(),
+            book.as_ptr(),
+            book.len(),
+            typed.as_ptr(),
+            typed.len(),
+            page.as_mut_ptr(),
+            page.len(),
+            &mut len,
+        )
+    };
+    answer(number).map(|()| len as usize)
 }
 
 /// 0, or a refusal's number.

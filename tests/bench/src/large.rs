@@ -1,6 +1,7 @@
-//! A large book, as the library has written it.
+//! A large book, as the library has written it. Its sources are of words, its targets any bytes.
 
 use bench::baseline;
+use bench::words::sentence;
 use reference::book::Unit;
 use reference::random::Random;
 use sealed_book::raw;
@@ -42,7 +43,8 @@ impl LargeBook {
             bytes: Vec::new(),
         };
         for i in 0..count {
-            let [source, target] = lengths(i, &mut random).map(|len| random.some_bytes(len));
+            let [s, t] = lengths(i, &mut random);
+            let (source, target) = (sentence(&mut random, s), random.some_bytes(t));
             book.units.push(Unit {
                 from: *b"en",
                 to: *b"de",

@@ -4,6 +4,8 @@ mod checking;
 mod ciphers;
 mod fetching;
 mod large;
+mod paging;
+mod scoring;
 mod sealing;
 mod walking;
 mod writing;
@@ -24,8 +26,12 @@ fn main() {
     println!();
     checking::table(&mut counter);
     println!();
+    scoring::table(&mut counter);
+    println!();
     let books = SUITES.map(|(_, suite)| Rc::new(LargeBook::new(suite, UNITS)));
     fetching::table(&books, &mut counter);
     println!();
     walking::table(&books, &mut counter);
+    println!();
+    paging::table(&books, &mut counter);
 }

@@ -54,6 +54,14 @@ impl<D> Contestant<D> {
         }
     }
 
+    /// Checking the same book, of which the library's other call is the first part.
+    pub fn check(about: &str, size: usize, run: fn(&mut D)) -> Contestant<D> {
+        Contestant {
+            whole: false,
+            ..Contestant::new("check", about.to_string(), size, run)
+        }
+    }
+
     pub fn reference(more: &str, size: usize, run: fn(&mut D)) -> Contestant<D> {
         let about = format!("the plain second implementation in Rust{more}");
         Contestant {

@@ -108,10 +108,7 @@ pub fn open_vectors() -> Vec<OpenVector> {
             nonce: bytes(fields[2]),
             header: bytes(fields[3]),
             sealed: bytes(fields[4]),
-            answer: match fields[5].strip_prefix("refused:") {
-                Some(number) => Err(number.parse().expect(number)),
-                None => Ok(bytes(fields[5])),
-            },
+            answer: bytes_or_refusal(fields[5]),
         });
     }
     vectors
@@ -145,6 +142,45 @@ pub fn book_vectors() -> Vec<BookVector> {
         });
     }
     vectors
+}
+
+/// A line of page.txt.
+pub struct PageVector {
+    /// The line's number in the file, from 1.
+    pub line: usize,
+    pub key: Vec<u8>,
+    pub book: Vec<u8>,
+    /// The typed sentence.
+    pub typed: Vec<u8>,
+    /// How many bytes the page's buffer has.
+    pub room: usize,
+    /// The page, or the refusal's number.
+    pub answer: Result<Vec<u8>, u32>,
+}
+
+/// Every line of page.txt but the comments: key, book and typed sentence in hex, the room, and the page in hex,
+/// or `refused:` and a number in place of it.
+pub fn page_vectors() -> Vec<PageVector> {
+    let mut vectors = Vec::new();
+    for (line, fields) in cases("page.txt", include_str!("../../vectors/page.txt"), 5) {
+        vectors.push(PageVector {
+            line,
+            key: bytes(fields[0]),
+            book: bytes(fields[1]),
+            typed: bytes(fields[2]),
+            room: fields[3].parse().expect(fields[3]),
+            answer: bytes_or_refusal(fields[4]),
+        });
+    }
+    vectors
+}
+
+/// Bytes in hex, or `refused:` and a number.
+fn bytes_or_refusal(text: &str) -> Result<Vec<u8>, u32> {
+    match text.strip_prefix("refused:") {
+        Some(number) => Err(number.parse().expect(number)),
+        None => Ok(bytes(text)),
+    }
 }
 
 /// The bytes of a text of two hex digits each; `-` has none.

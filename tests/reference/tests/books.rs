@@ -1,11 +1,12 @@
 //! The books of book.txt: checked; the accepted ones taken apart and laid out again, at once and step by
-//! step; and their units fetched.
+//! step; and their units fetched. The books of page.txt: their pages.
 
 use reference::book::Book;
 use reference::check::check;
 use reference::cipher::SUITES;
 use reference::fetch::fetch;
-use reference::vectors::book_vectors;
+use reference::page::page;
+use reference::vectors::{book_vectors, page_vectors};
 use reference::writer::start;
 
 #[test]
@@ -73,4 +74,30 @@ fn units_are_fetched() {
             assert_eq!(units, expected, "line {}", v.line);
         }
     }
+}
+
+/// Pages and refusals, of which some are for the page's room alone.
+#[test]
+fn page_vectors_hold() {
+    let vectors = page_vectors();
+    assert_eq!(vectors.len(), 60);
+    let (mut rows, mut refused) = (0, [0; 17]);
+    for v in vectors {
+        let answer = page(&v.key, &v.book, &v.typed, v.room);
+        assert_eq!(answer, v.answer, "line {}", v.line);
+        match answer {
+            Ok(page) => {
+                assert_eq!(page.len() % 12, 0, "line {}", v.line);
+                rows += page.len() / 12;
+            }
+            Err(number) => {
+                let roomy = page(&v.key, &v.book, &v.typed, v.room + 1_000);
+                assert_eq!(roomy.err().unwrap_or(7), number, "line {}", v.line);
+                refused[number as usize] += 1;
+            }
+        }
+    }
+    assert_eq!(rows, 53);
+    let numbers = [7, 8, 11, 14, 15].map(|number| refused[number]);
+    assert_eq!(numbers, [11, 4, 1, 12, 1]);
 }

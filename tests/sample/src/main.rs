@@ -1,7 +1,7 @@
 //! Writes a book of three units with the proved library, checks it and holds it to its receipt, fetches one
-//! unit, goes over all, reads what stands in the clear, and has the book refused with two blocks exchanged;
-//! seals a sentence, opens it again, and has it refused with one bit changed; enciphers one block and deciphers
-//! it again.
+//! unit, goes over all, compares a typed sentence with each, reads what stands in the clear, and has the book
+//! refused with two blocks exchanged; seals a sentence, opens it again, and has it refused with one bit changed;
+//! enciphers one block and deciphers it again.
 //! Prints what it did.
 
 use std::error::Error;
@@ -75,6 +75,13 @@ fn read_a_book(key: &[u8; 16], bytes: &[u8], receipt: &Receipt) -> Result<(), Bo
         let unit = unit?;
         let (k, name) = (unit.number(), if unit.number() == 0 { "all" } else { "" });
         println!("{name:<10}  unit {k}: {}", shown(&unit)?);
+    }
+    let typed = "Hold the button up.";
+    println!(
+        "page        {typed:?} typed: the length of each source, and how near it is, 0 to 1000"
+    );
+    for row in book.page(typed)?.lines() {
+        println!("            {row}");
     }
     Ok(())
 }

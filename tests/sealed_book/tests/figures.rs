@@ -297,16 +297,17 @@ fn refusal_sentence(comment: &str) -> Option<&str> {
 }
 
 /// A function's refusals in their order, as its comment says. "those of sb_fetch without the units before k" are the same
-/// numbers: the sentence of sb_fetch names those of a unit once.
+/// numbers: the sentence of sb_fetch names those of a unit once. Behind "those of sb_check in their order, then 7" one more comes.
 fn order(function: &Function, functions: &[Function]) -> Option<Vec<u32>> {
     let sentence = refusal_sentence(&function.comment)?;
     let Some(other) = sentence.strip_prefix("those of ") else {
         return Some(short_numbers(sentence));
     };
-    let name = other.split_whitespace().next();
+    let (name, behind) = other.split_once(' ').unwrap_or((other, ""));
     let mut functions = functions.iter();
-    let other = functions.find(|known| Some(known.name.as_str()) == name)?;
-    refusal_sentence(&other.comment).map(short_numbers)
+    let other = functions.find(|known| known.name == name)?;
+    let numbers = short_numbers(refusal_sentence(&other.comment)?);
+    Some([numbers, short_numbers(behind)].concat())
 }
 
 /// A heading of calls in a document, and the numbers in the list under it.
@@ -389,7 +390,9 @@ fn wrong_orders(document: &Document, told: &[Told<'_>], functions: &[Function]) 
 }
 
 /// The columns of the table of refusals that are calls: `seal` is sb_seal, and so on.
-const CALLS: [&str; 7] = ["seal", "open", "start", "add", "close", "check", "fetch"];
+const CALLS: [&str; 8] = [
+    "seal", "open", "start", "add", "close", "check", "fetch", "page",
+];
 
 /// What is wrong with a row of the table of refusals, with the refusal of the header that is due there.
 fn wrong_row(row: &Row, due: Option<&Named>, orders: &[Vec<u32>]) -> Vec<String> {
@@ -478,13 +481,15 @@ fn refusals_in_rust() {
     assert_eq!(Refusal::from_number(next), None, "refusal {next}");
 }
 
-/// The functions that return the number of a refusal and do not say which, or say so and return none.
+/// The functions that return the number of a refusal and do not say which, or say so and return none. One that returns another
+/// number says "Nothing is refused."
 fn unsaid_refusals(header: &Source) -> Vec<String> {
     let functions = functions(header);
     let mut failures = Vec::new();
     for function in &functions {
         let line = header.text.lines().nth(function.line - 1);
-        let returned = line.is_some_and(|line| line.starts_with("uint32_t "));
+        let number = line.is_some_and(|line| line.starts_with("uint32_t "));
+        let returned = number && !function.comment.contains("Nothing is refused.");
         let said = order(function, &functions).is_some_and(|order| !order.is_empty());
         let what = match (returned, said) {
             (true, false) => "returns refusals, and its comment names none",

@@ -27,6 +27,8 @@ fn about_lengths() -> Vec<String> {
         raw::CODE_ROOM,
         raw::FIRST_UNIT,
         raw::CLOSE_ROOM,
+        raw::ROW_LEN,
+        raw::SCORE_MAX as usize,
     ];
     let [unit, book] = [raw::unit_room(5, 6), raw::book_room(1, 11)];
     let longest = raw::book_room(65_535, 65_535 * 8_192);
@@ -77,6 +79,29 @@ fn about_the_book() -> Vec<String> {
         "ciphertext 28 13".to_string(),
         "ciphertext 0 0".to_string(),
         "ciphertext 0 0".to_string(),
+    ]
+}
+
+/// What it says of scores and of the book's page; the rows are the request's, and one of 6,000 / 6.
+fn pages() -> Vec<String> {
+    let untouched = hex(&[0xFF; 14]);
+    let page = |row: &str| hex(row.as_bytes()) + &hex(&[0xFF; 2]);
+    vec![
+        "scores 857 857 1000 1000 0".to_string(),
+        format!("page 7 {untouched}"),
+        "len 9".to_string(),
+        format!("page 8 {untouched}"),
+        "len 9".to_string(),
+        format!("page 0 {}", page("    5   857\n")),
+        "len 12".to_string(),
+        format!("page 0 {}", page("    5     0\n")),
+        "len 12".to_string(),
+        format!("page 0 {}", page("    5  1000\n")),
+        "len 12".to_string(),
+        "page 2 ".to_string(),
+        "len 9".to_string(),
+        "page 0 ".to_string(),
+        "len 0".to_string(),
     ]
 }
 
@@ -191,7 +216,14 @@ fn client_in_c() {
         "none 2 ".to_string(),
     ];
     let text = String::from_utf8(output.stdout).expect("text");
-    let book = [about_the_book(), in_the_clear(), texts(), at_last()].concat();
+    let book = [
+        about_the_book(),
+        pages(),
+        in_the_clear(),
+        texts(),
+        at_last(),
+    ]
+    .concat();
     let expected = [&about_lengths()[..], &expected, &book].concat();
     assert_eq!(text.lines().collect::<Vec<_>>(), expected);
 }
@@ -203,6 +235,8 @@ fn lengths_and_limits() {
     assert_eq!((raw::NONCE_MAX, raw::LEN), (15, 64));
     assert_eq!((raw::SEGMENT_MAX, raw::UNIT_MAX), (4_096, 8_192));
     assert_eq!((raw::UNITS_MAX, raw::CODE_LEN), (65_535, 2));
+    // "source length .. in 5 columns, two blanks, score in 4, a line feed"; "1,000 for equal segments"
+    assert_eq!((raw::ROW_LEN, raw::SCORE_MAX), (5 + 2 + 4 + 1, 1_000));
     // "A book takes 16 + the sum of (33 + s + t) + 24 bytes."
     assert_eq!((raw::FIRST_UNIT, raw::CLOSE_ROOM), (16, 24));
     assert_eq!((raw::unit_room(5, 6), raw::book_room(1, 11)), (44, 84));

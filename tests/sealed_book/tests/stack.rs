@@ -215,6 +215,53 @@ fn reading(most: &mut Most, key: &[u8], book: &[u8]) -> [u32; 2] {
     returned
 }
 
+/// Lengths of segments and typed sentences: without trigrams, short, around 256, and the longest of a unit and
+/// longer ones.
+const LENGTHS: [usize; 10] = [0, 2, 3, 20, 256, 259, 300, 4_096, 4_099, 9_000];
+
+/// Scores of segments of any bytes, and of one letter.
+fn scoring(most: &mut Most, random: &mut Random) {
+    let texts = LENGTHS.map(|len| [random.some_bytes(len), vec![b'a'; len]]);
+    for one in texts.as_flattened() {
+        for other in texts.as_flattened() {
+            let (source, typed) = (one.as_ptr(), other.as_ptr());
+            // SAFETY: each slice is given with its length.
+            let score = most.measure("sb_score", || unsafe {
+                sb_score(source, one.len(), typed, other.len())
+            });
+            assert!(score == 1_000 || one != other);
+        }
+    }
+}
+
+/// Pages of this book, whole or not, of which checking says this: with typed sentences of many lengths, and a
+/// buffer with room and without.
+fn paging(most: &mut Most, random: &mut Random, key: &[u8], book: &[u8], checked: u32) {
+    let mut page = [0; 3 * raw::ROW_LEN];
+    let (key, key_len, book, len) = (key.as_ptr(), key.len(), book.as_ptr(), book.len());
+    let (page, mut written) = (page.as_mut_ptr(), 0);
+    for typed in LENGTHS.map(|len| random.some_bytes(len)) {
+        let (typed, typed_len) = (typed.as_ptr(), typed.len());
+        for (room, short) in [(3 * raw::ROW_LEN, 0), (3 * raw::ROW_LEN - 1, 7)] {
+            // SAFETY: each slice is given with its length, and the number is there.
+            let returned = most.measure("sb_page", || unsafe {
+                sb_page(
+                    key,
+                    key_len,
+                    book,
+                    len,
+                    typed,
+                    typed_len,
+                    page,
+                    room,
+                    &mut written,
+                )
+            });
+            assert_eq!(returned, if checked == 0 { short } else { checked });
+        }
+    }
+}
+
 /// The most that each call takes, over books with the longest units in all suites, whole and damaged.
 fn measured() -> BTreeMap<&'static str, usize> {
     let mut most = Most {
@@ -224,6 +271,7 @@ fn measured() -> BTreeMap<&'static str, usize> {
     let mut random = Random::new(SEED);
     blocks(&mut most, &mut random);
     sealing(&mut most, &mut random);
+    scoring(&mut most, &mut random);
     for suite in SUITES {
         let mut book = random_book(&mut random, suite, 3, 40);
         book.units[1] = unit(&mut random, 4_096, 4_096);
@@ -234,6 +282,10 @@ fn measured() -> BTreeMap<&'static str, usize> {
         assert_eq!(reading(&mut most, &[0; 16], &bytes), [8, 8]);
         reading(&mut most, &book.key, &bytes[..bytes.len() - 1]);
         reading(&mut most, &book.key, &[]);
+        paging(&mut most, &mut random, &book.key, &bytes, 0);
+        paging(&mut most, &mut random, &book.key[1..], &bytes, 2);
+        paging(&mut most, &mut random, &[0; 16], &bytes, 8);
+        paging(&mut most, &mut random, &book.key, &[], 14);
     }
     most.of
 }

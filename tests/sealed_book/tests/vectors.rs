@@ -1,11 +1,12 @@
 //! The library and the reference against every line of cipher.txt, in both directions, and the library
-//! against every line of seal.txt and open.txt.
+//! against every line of seal.txt, open.txt and page.txt.
 
 mod common;
 
+use common::paging::page_gives;
 use common::sealing::Given;
 use common::Direction::{Decipher, Encipher};
-use reference::vectors::{cipher_vectors, open_vectors, seal_vectors};
+use reference::vectors::{cipher_vectors, open_vectors, page_vectors, seal_vectors};
 
 #[test]
 fn cipher_vectors_hold() {
@@ -73,6 +74,23 @@ fn open_vectors_hold() {
         given.open_gives(len + 9, &v.answer, &name);
         if len > 0 {
             given.open_gives(len - 1, &Err(7), &name);
+        }
+    }
+}
+
+#[test]
+fn page_vectors_hold() {
+    let vectors = page_vectors();
+    assert_eq!(vectors.len(), 60);
+    for v in vectors {
+        let name = format!("line {}", v.line);
+        page_gives(&v.key, &v.book, &v.typed, v.room, &v.answer, &name);
+        if let Ok(page) = &v.answer {
+            let len = page.len();
+            page_gives(&v.key, &v.book, &v.typed, len + 9, &v.answer, &name);
+            if len > 0 {
+                page_gives(&v.key, &v.book, &v.typed, len - 1, &Err(7), &name);
+            }
         }
     }
 }

@@ -14,8 +14,9 @@ int main(void) {
     uint8_t key[SB_KEY_LEN] = {0}, tweaks[40] = {0}, blocks[40] = {0};
 
     printf("version %d\n", SB_VERSION);
-    printf("lengths %d %d %d %d %d %d %d %d %d %d %d %d\n", SB_KEY_LEN, SB_BLOCK_LEN, SB_TAG_LEN, SB_NONCE_MAX, SB_WRITER_LEN,
-           SB_SEGMENT_MAX, SB_UNIT_MAX, SB_UNITS_MAX, SB_CODE_LEN, SB_CODE_ROOM, SB_FIRST_UNIT, SB_CLOSE_ROOM);
+    printf("lengths %d %d %d %d %d %d %d %d %d %d %d %d %d %d\n", SB_KEY_LEN, SB_BLOCK_LEN, SB_TAG_LEN, SB_NONCE_MAX,
+           SB_WRITER_LEN, SB_SEGMENT_MAX, SB_UNIT_MAX, SB_UNITS_MAX, SB_CODE_LEN, SB_CODE_ROOM, SB_FIRST_UNIT, SB_CLOSE_ROOM,
+           SB_ROW_LEN, SB_SCORE_MAX);
     printf("rooms %lu %lu %lu\n", (unsigned long)SB_UNIT_ROOM(5, 6), (unsigned long)SB_BOOK_ROOM(1, 5 + 6),
            (unsigned long)SB_BOOK_ROOM(SB_UNITS_MAX, (size_t)SB_UNITS_MAX * SB_UNIT_MAX));
     for (size_t n = 1; n <= SB_NONCE_MAX; n++)
@@ -126,6 +127,40 @@ int main(void) {
     at = 9, part = 9;
     sb_ciphertext(NULL, 0, UINT64_MAX, &at, &part);
     printf("ciphertext %u %u\n", (unsigned)at, (unsigned)part);
+
+    /* scores; the page of the book: a buffer one byte short, a changed tag, then with 2 bytes to spare; an empty sentence, the
+     * source itself, nothing lent, and a book without units, which takes no buffer */
+    const uint8_t valves[6] = {'v', 'a', 'l', 'v', 'e', 's'};
+    uint8_t page[SB_ROW_LEN + 2], empty[SB_BOOK_ROOM(0, 0)], second[SB_WRITER_LEN];
+    printf("scores %u %u %u %u %u\n", (unsigned)sb_score(valve, sizeof valve, valves, sizeof valves),
+           (unsigned)sb_score(valves, sizeof valves, valve, sizeof valve), (unsigned)sb_score(valve, sizeof valve, valve, sizeof valve),
+           (unsigned)sb_score(NULL, 0, NULL, 0), (unsigned)sb_score(valve, sizeof valve, NULL, 0));
+    memset(page, 0xFF, sizeof page);
+    len = 9;
+    returned = sb_page(key, sizeof key, book, book_len, valves, sizeof valves, page, SB_ROW_LEN - 1, &len);
+    print("page", returned, page, sizeof page);
+    printf("len %u\n", (unsigned)len);
+    book[book_len - 1] ^= 1;
+    returned = sb_page(key, sizeof key, book, book_len, valves, sizeof valves, page, sizeof page, &len);
+    print("page", returned, page, sizeof page);
+    printf("len %u\n", (unsigned)len);
+    book[book_len - 1] ^= 1;
+    returned = sb_page(key, sizeof key, book, book_len, valves, sizeof valves, page, sizeof page, &len);
+    print("page", returned, page, sizeof page);
+    printf("len %u\n", (unsigned)len);
+    returned = sb_page(key, sizeof key, book, book_len, NULL, 0, page, sizeof page, &len);
+    print("page", returned, page, sizeof page);
+    printf("len %u\n", (unsigned)len);
+    returned = sb_page(key, sizeof key, book, book_len, valve, sizeof valve, page, SB_ROW_LEN, &len);
+    print("page", returned, page, sizeof page);
+    printf("len %u\n", (unsigned)len);
+    len = 9;
+    print("page", sb_page(NULL, 0, NULL, 0, NULL, 0, NULL, 0, &len), NULL, 0);
+    printf("len %u\n", (unsigned)len);
+    if (sb_start(SB_SCREAM, 10, key, sizeof key, 8, empty, sizeof empty, second) != 0 || sb_close(second, empty, sizeof empty) != 0)
+        return 1;
+    print("page", sb_page(key, sizeof key, empty, sizeof empty, valves, sizeof valves, NULL, 0, &len), NULL, 0);
+    printf("len %u\n", (unsigned)len);
 
     /* what stands in the clear: of the book, of its unit, at its place and walked to, of the close, and with nothing lent */
     uint8_t cipher = 7, steps = 8, from[SB_CODE_ROOM], to[SB_CODE_ROOM];

@@ -1,5 +1,6 @@
 //! Both directions of a cipher, in the library and in the reference; sealing; writing and checking a
-//! book, fetching from it, and what it says in the clear; causes of refusal; and documents.
+//! book, fetching from it, comparing a sentence with it, and what it says in the clear; causes of refusal;
+//! and documents.
 
 // Each test file uses a part of this.
 #![allow(dead_code)]
@@ -10,10 +11,13 @@ pub mod clearing;
 pub mod document;
 pub mod fetching;
 pub mod guarded;
+pub mod paging;
 pub mod parts;
+pub mod refused;
 pub mod sealing;
 pub mod spoiled;
 pub mod spoiling;
+pub mod texts;
 pub mod writing;
 
 use std::ptr::null;
