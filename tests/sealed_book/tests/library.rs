@@ -30,7 +30,14 @@ ar crD "target/staticlib/lib$2.a" "target/$2.o"
 rm "target/$2.o" target/busy
 "#;
 
-const CRATES: [&str; 5] = ["c_blocks", "c_sealing", "c_writer", "c_reader", "c_clear"];
+const CRATES: [&str; 6] = [
+    "c_blocks",
+    "c_sealing",
+    "c_writer",
+    "c_reader",
+    "c_page",
+    "c_clear",
+];
 
 /// The crates of the repository: `state` and `bits` are used by those, `report` by none of them, and `io` is
 /// a library of the kit.
@@ -43,12 +50,13 @@ c_blocks: state
 c_sealing:
 c_writer:
 c_reader: state
+c_page: state
 c_clear: # and not report
 report: c_clear
 ";
 
 /// Each crate with its number of functions.
-const FUNCTIONS: [(&str, usize); 8] = [
+const FUNCTIONS: [(&str, usize); 9] = [
     ("bits", 0),
     ("state", 1),
     ("c_blocks", 2),
@@ -57,10 +65,11 @@ const FUNCTIONS: [(&str, usize); 8] = [
     ("c_reader", 16),
     ("c_clear", 32),
     ("report", 64),
+    ("c_page", 128),
 ];
 
 /// The line on these: the functions of all but `report`.
-const PROVED: &str = "proved: 63 functions in 7 crates, 0 failed\n";
+const PROVED: &str = "proved: 191 functions in 8 crates, 0 failed\n";
 
 const KIT: &str = "kit 1 logic 11";
 
@@ -201,7 +210,7 @@ impl Repository {
         expected.sort();
         assert_eq!(members, expected);
         let content = Command::new("ar").arg("p").arg(&archive).output().unwrap();
-        assert_eq!(said(&content), source.repeat(5));
+        assert_eq!(said(&content), source.repeat(CRATES.len()));
         let mut there = names(&self.at(folder));
         there.retain(|name| name != "libsealed_book.a");
         assert_eq!(there, besides);
@@ -377,7 +386,7 @@ fn the_line_is_that_of_the_archive() {
     repository.remove("refused");
     assert_eq!(repository.proved(&[]), once());
     repository.assert_whole("target/staticlib", "two", &BESIDE);
-    let line = "proved: 163 functions in 7 crates, 0 failed\n";
+    let line = "proved: 291 functions in 8 crates, 0 failed\n";
     assert_eq!(repository.line(), line);
 }
 
