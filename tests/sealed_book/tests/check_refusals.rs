@@ -9,7 +9,7 @@ use std::process::Command;
 use common::causes::{first_is_given, sets, Cause as _};
 use common::checking::{accepts, check_gives, checked, refuses, Answer};
 use common::parts::{close_fields, random_book, unit_fields, written, Parts};
-use common::refused::{random_case, spoiled, Cause, Cause::*, CAUSES};
+use common::refused::{first_of_each_set, random_case, spoiled, Cause, Cause::*, CAUSES};
 use common::spoiling::{text, LONG_TEXTS};
 use common::writing::unit;
 use common::{codes_with_each_byte, hex};
@@ -29,13 +29,7 @@ fn case(random: &mut Random, set: &[Cause], name: &str) -> Answer {
 #[test]
 fn every_set_of_causes() {
     let counts = first_is_given(SEED, &sets(&CAUSES), 1, case);
-    // how many sets begin with a cause of each number
-    let mut expected = [0; 17];
-    expected[0] = 1;
-    for (i, cause) in CAUSES.into_iter().rev().enumerate() {
-        expected[cause.number() as usize] += 1 << i;
-    }
-    assert_eq!(counts, expected);
+    assert_eq!(counts, first_of_each_set());
 }
 
 #[test]

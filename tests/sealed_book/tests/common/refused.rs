@@ -46,6 +46,16 @@ pub const CAUSES: [Cause; 13] = [
     LeftOver,
 ];
 
+/// How many sets of these causes begin with one of each number; that without causes is at 0.
+pub fn first_of_each_set() -> [usize; 17] {
+    let mut counts = [0; 17];
+    counts[0] = 1;
+    for (i, cause) in CAUSES.into_iter().rev().enumerate() {
+        counts[causes::Cause::number(cause) as usize] += 1 << i;
+    }
+    counts
+}
+
 impl causes::Cause for Cause {
     fn number(self) -> u32 {
         match self {
