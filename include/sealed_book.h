@@ -237,22 +237,23 @@ uint32_t sb_fetch(const uint8_t *key, size_t key_len, const uint8_t *book, size_
 uint32_t sb_fetch_at(const uint8_t *key, size_t key_len, const uint8_t *book, size_t book_len, uint64_t number, size_t at,
                      uint8_t *out, size_t out_len, uint64_t *source_len, uint64_t *target_len, uint64_t *next);
 
-/* How alike two segments are, of any length, empty ones too: 0 to SB_SCORE_MAX, and the same both ways round. A segment has a
- * run of three bytes from each place on but its last two: the one has p runs, the other q, and c are shared, each counted as often
- * as both have it. The score is 2,000 * c / (p + q), rounded down; where p + q is 0, 1,000 for equal segments and 0 for others.
- * Bytes are compared, whatever they mean: a letter of two bytes counts as two, and a capital is another letter. Only reads. A slice
- * of length 0 may be null.
+/* How alike two segments are, of any length, empty ones too: 0 to SB_SCORE_MAX, and the same both ways round. A segment has a run
+ * of three bytes from each place on but its last two, none if it is shorter than 3: the one has p runs, the other q, and c are
+ * shared, each counted as often as both have it. The score is 2,000 * c / (p + q), rounded down; where p + q is 0, 1,000 for
+ * equal segments and 0 for others. Bytes are compared, whatever they mean: a letter of two bytes counts as two, and a capital is
+ * another letter. Only reads. A slice of length 0 may be null.
  * It takes time as the two lengths together, on ordinary text of which one side has at most 4,096 bytes; docs/SPEED.md has what
  * longer ones take, and bytes that were chosen to be slow.
  * Nothing is refused. */
 uint32_t sb_score(const uint8_t *source, size_t source_len, const uint8_t *typed, size_t typed_len);
 
-/* Compares a typed sentence of any length, also an empty one, with every unit of a book under its key of 16 bytes: writes a row for
- * each unit, in the order of the book, to the start of page, and leaves every other byte of page as it was. *len is then
+/* Compares a typed sentence of any length, also an empty one, with every unit of a book under its key of 16 bytes: writes a row
+ * for each unit, in the order of the book, to the start of page, and leaves every other byte of page as it was. *len is then
  * SB_ROW_LEN times the number of units. A row is the length of the source in bytes, right-aligned in 5 columns, two blanks,
- * sb_score of the source and the typed sentence, right-aligned in 4 columns, and a line feed: "    5   857\n" for a source "valve"
- * and a typed "valves". The whole book is checked, as by sb_check, before anything is written. Compare it with its receipt (above)
- * first: a book that was made shorter on the way is not refused. A slice of length 0 may be null.
+ * sb_score of the source and the typed sentence, right-aligned in 4 columns, and a line feed: "    5   857\n" for a source
+ * "valve" and a typed "valves". No zero byte stands behind the rows. The whole book is checked, as by sb_check, before anything
+ * is written. Compare it with its receipt (above) first: a book that was made shorter on the way is not refused. A slice of
+ * length 0 may be null.
  * Refusals, the first that applies: those of sb_check in their order, then 7; then page and *len are as they were. */
 uint32_t sb_page(const uint8_t *key, size_t key_len, const uint8_t *book, size_t book_len, const uint8_t *typed, size_t typed_len,
                  uint8_t *page, size_t page_len, uint64_t *len);

@@ -1,3 +1,4 @@
 pub mod Pages
 pub mod Done
 pub mod Written
+pub mod Examples

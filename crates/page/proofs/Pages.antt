@@ -40,7 +40,7 @@ use Rattle.score.proofs.Laws.{score-le}
 use Rattle.rows.proofs.Rows.{length-row}
 use Rattle.sources.proofs.Opened.{source-within, source-long}
 use Rattle.page.specs.declared.PageAnswer.the-variants.{Written, Refused as PageRefused}
-use Rattle.page.specs.Page.{row, rows, ciphertextLength, sourceAt, sourcesFrom, unitCount, pageBy, pageBytes}
+use Rattle.page.specs.Page.{row, rows, ciphertextLength, sourceAt, sourcesFrom, pageBy, pageBytes}
 use Rattle.page.specs.Page.{outcomeBy, pageOutcome, pageReport, pageAnswer, pageBuffer}
 use Rattle.page.specs.Units.{UnitThere, Units, none, more}
 

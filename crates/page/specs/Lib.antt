@@ -1,2 +1,3 @@
 pub mod Page
 pub mod Units
+pub mod Examples

@@ -48,14 +48,10 @@ sourcesFrom kind key o zero n s = []
 sourcesFrom kind key o (suc count) n s =
     sourceAt kind key o n s ∷ sourcesFrom kind key o count (suc n) (afterUnit kind (ciphertextLength kind s) s)
 
--- how many units check counts, none where it refuses
-abbrev pub unitCount : CheckAnswer → ℕ
-unitCount (Accepted n t) = n
-unitCount (CheckRefused why) = 0
-
--- the page of the book s, for what check answers
+-- the page of the book s, by what check answers: the rows of the units that it counts, none where it refuses
 unfoldable pub pageBy : CheckAnswer → List ℕ → List ℕ → List ℕ → List ℕ
-pageBy checked key s typed = rows typed (sourcesFrom (kindOf (bookKind s)) key (openingBytes s) (unitCount checked) 0 (afterOpening s))
+pageBy (Accepted n t) key s typed = rows typed (sourcesFrom (kindOf (bookKind s)) key (openingBytes s) n 0 (afterOpening s))
+pageBy (CheckRefused why) key s typed = []
 
 unfoldable pub pageBytes : List ℕ → List ℕ → List ℕ → List ℕ
 pageBytes key s typed = pageBy (checkAnswer key s) key s typed

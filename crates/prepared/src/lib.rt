@@ -31,7 +31,7 @@ fn copy(n: usize, s: &[u16], d: &mut [u16])
     }
 }
 
-// Counts the typed sentence's trigrams, unless it is too long.
+// Counts the typed sentence's trigrams, unless it is too long. `head` has 2,048 numbers, the others 4,096; all may be 0.
 pub fn prepare(
     typed: &[u8],
     head: &mut [u16],
@@ -50,7 +50,7 @@ pub fn prepare(
     }
 }
 
-// The score of a source of at most 4,096 bytes against the typed sentence.
+// The score of a source of at most 4,096 bytes against the typed sentence, in room in which that was prepared; it stays so.
 pub fn score(
     source: &[u8],
     typed: &[u8],
@@ -68,7 +68,7 @@ pub fn score(
         (now (head .exit)) (now (next .exit)) (now (counts .exit)) (now (keys .exit)) (now (work .exit)) ⌝ }
 {
     if typed.len() <= 4096 {
-        copy(trigrams::count(typed.len()) + 1, counts, work);
+        copy(trigrams::number_in(typed.len()) + 1, counts, work);
         let c = tally::take_all(typed, source, head, next, work, keys);
         return score::score_by(c, source, typed);
     }

@@ -1,4 +1,4 @@
-// A row of a page. Each function serves our own crates, which lend it just the room.
+// A row of a page. A function with a precondition serves our own crates, which see to it.
 ghost use mathlib.Core.Path.{_≡_};
 ghost use Prim.Native.Nat.{_≤_};
 ghost use lib.ListN.{length, replicate};
@@ -17,7 +17,7 @@ fn blanks(out: &mut [u8])
     }
 }
 
-// A number, right-aligned in as many columns as there is room for.
+// A number, right-aligned in as many columns as there is room for, which are enough.
 fn column(n: u64, out: &mut [u8])
     requires { ⌜ length (digits n) ≤ length (now out) ⌝ }
     ensures { λ _. ⌜ now (out .exit) ≡ rightAligned (length (now (out .entry))) n ⌝ }
@@ -27,7 +27,7 @@ fn column(n: u64, out: &mut [u8])
     let k = decimal::put(n, &mut out[at..]);
 }
 
-// The row of a source of `len` bytes with this score.
+// The row of a source of `len` bytes, at most 4,096, with this score, at most 1,000, in room of 12 bytes.
 pub fn put(len: usize, score: u32, out: &mut [u8])
     requires { ⌜ (len ≤ 4096)
         × (score ≤ 1000)

@@ -90,6 +90,7 @@ score-laws =
       most = score-le;
       self = score-self;
       both = score-sym;
+      equal = λ x y. (equal-means x y, λ e. ap (equalSegments x) (sym e) ∙ equal-self x);
       first = λ x y. shared-le-left (trigrams x) (trigrams y);
       second = λ x y. shared-le (trigrams x) (trigrams y);
     }

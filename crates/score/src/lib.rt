@@ -113,7 +113,7 @@ pub fn score_by(c: usize, a: &[u8], b: &[u8]) -> u32
     ensures { λ r. ⌜ (r ≡ score (now (a .entry)) (now (b .entry)))
         × (r ≤ 1000) ⌝ }
 {
-    let n = trigrams::count(a.len()) + trigrams::count(b.len());
+    let n = trigrams::number_in(a.len()) + trigrams::number_in(b.len());
     if n == 0 {
         if is_equal(a, b) {
             return 1000;
@@ -125,9 +125,9 @@ pub fn score_by(c: usize, a: &[u8], b: &[u8]) -> u32
 
 // The score of two segments, of any length: 0 to 1,000. Where one of the two has at most 4,096 bytes, and the text is ordinary, it takes time as
 // their lengths together.
-pub fn score(a: &[u8], b: &[u8]) -> u32
-    ensures { λ r. ⌜ (r ≡ score (now (a .entry)) (now (b .entry)))
+pub fn score(source: &[u8], typed: &[u8]) -> u32
+    ensures { λ r. ⌜ (r ≡ score (now (source .entry)) (now (typed .entry)))
         × (r ≤ 1000) ⌝ }
 {
-    score_by(shared_either(a, b), a, b)
+    score_by(shared_either(source, typed), source, typed)
 }

@@ -15,7 +15,7 @@ ghost use Rattle.sources.specs.Source.{HasFront, HasSource};
 
 // The start of the text of the ciphertext c, up to the end of its source, at the start of `work`: its first block, which says the length, then
 // as many as the source needs. The source's length.
-fn front(suite: Suite, key: [u8; 16], nonce: &[u8], c: &[u8], work: &mut [u8]) -> usize
+fn text_start(suite: Suite, key: [u8; 16], nonce: &[u8], c: &[u8], work: &mut [u8]) -> usize
     requires { ⌜ Passable suite (now nonce) (now c)
         × (2 + sourceLength (textOf suite key (now nonce) (now c)) ≤ length (now c))
         × (sourceLength (textOf suite key (now nonce) (now c)) ≤ 4096)
@@ -33,7 +33,8 @@ fn front(suite: Suite, key: [u8; 16], nonce: &[u8], c: &[u8], work: &mut [u8]) -
     len
 }
 
-// The source of the unit at the start of s, whose ciphertext has m bytes, from byte 2 of `work` on: its length.
+// The source of the unit at the start of s, which was checked and whose ciphertext has m bytes, from byte 2 of `work` on: its length. `work`
+// has 4,112 bytes at least, so that the longest source has room in whole blocks.
 pub fn source(
     kind: Kind,
     key: &[u8],
@@ -55,5 +56,5 @@ pub fn source(
     let k = blockwise::block_at(key, 0);
     let start = kind.ciphertext_at();
     let end = start + m;
-    crate::front(suite, k, &nonce, &s[start..end], work)
+    text_start(suite, k, &nonce, &s[start..end], work)
 }

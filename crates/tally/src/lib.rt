@@ -78,7 +78,7 @@ fn add(s: &[u8], i: usize, head: &mut [u16], next: &mut [u16], counts: &mut [u16
     }
 }
 
-// Counts the trigrams of s.
+// Counts the trigrams of s, in room in which nothing is counted.
 pub fn fill(s: &[u8], head: &mut [u16], next: &mut [u16], counts: &mut [u16], keys: &mut [u32])
     requires { ⌜ Empty (now s) (now head) (now next) (now counts) (now keys) ⌝ }
     ensures { λ _. ⌜ Filled
@@ -114,7 +114,7 @@ fn take_one(
     d
 }
 
-// How many trigrams of t are shared with those of s that are counted; each takes one away.
+// How many trigrams of t are shared with those of s, which were counted; each takes one away.
 pub fn take_all(
     s: &[u8],
     t: &[u8],

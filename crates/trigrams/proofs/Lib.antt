@@ -1,3 +1,4 @@
 pub mod Common
 pub mod Taken
 pub mod Trigrams
+pub mod Laws

@@ -1,3 +1,4 @@
 pub mod Trigrams
 pub mod Read
 pub mod Taken
+pub mod Laws

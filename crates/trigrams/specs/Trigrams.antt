@@ -7,11 +7,12 @@ use lib.ListN.{length, getD}
 use Rattle.bits.specs.Table.{tab}
 
 -- the three bytes from place i on, as one number; of bytes, two are the same number exactly where they are the same three bytes
--- (trigram-same)
+-- (`same` in Laws)
 unfoldable pub trigram : List ℕ → ℕ → ℕ
 trigram s i = getD s i 0 + 256 * getD s (i + 1) 0 + 65536 * getD s (i + 2) 0
 
--- "For a segment take its three-byte runs, none if shorter than 3": one from each place but the last two
+-- "For a segment take its three-byte runs, none if shorter than 3": one from each place but the last two (`length s - 2` is 0 where s is
+-- shorter than that)
 unfoldable pub trigrams : List ℕ → List ℕ
 trigrams s = tab (length s - 2) (trigram s)
 
@@ -31,6 +32,6 @@ common x [] = []
 common x (v ∷ y) = cond (eqb (count v x) 0) (common x y) (v ∷ common (less v x) y)
 
 -- "c shared (each run counted as often as both have it)": v stands in `common x y` as often as in x and in y, whichever has it
--- less often (common-count)
+-- less often (`often` in Laws)
 unfoldable pub shared : List ℕ → List ℕ → ℕ
 shared x y = length (common x y)

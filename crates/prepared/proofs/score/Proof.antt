@@ -22,7 +22,7 @@ take-all-requires c κs =
     let k = c .before .before .before .before .before .before in
     let a = start k .args in
     let r = start k .pre .0 .room in
-    let n = k .before .before .before .count in
+    let n = k .before .before .before .number-in in
     let counts = counted-copy (counted k) (a .work .now) (n .result + 1) (ap (λ m. m + 1) (n .ensures)) (r .workLong ∙ sym (r .nextLong)) in
     rw (k .copy .ensures) counts
 

@@ -9,13 +9,13 @@ use Rattle.score.proofs.Scores.{score-none, score-some, shared-twice}
 use Rattle.score.proofs.score_by.Statement.{statement}
 use Rattle.score.proofs.score_by.Tie as tie
 
-abbrev start : tie.After-count2 → tie.Start
+abbrev start : tie.After-number-in2 → tie.Start
 start c = c .before .before .before .before
 
 -- p + q
-sum : (c : tie.After-count2)
-    → c .before .count .result + c .count2 .result ≡ length (start c .args .a .now) - 2 + (length (start c .args .b .now) - 2)
-sum c = omega (arith, c .before .count .ensures, c .count2 .ensures)
+sum : (c : tie.After-number-in2)
+    → c .before .number-in .result + c .number-in2 .result ≡ length (start c .args .a .now) - 2 + (length (start c .args .b .now) - 2)
+sum c = omega (arith, c .before .number-in .ensures, c .number-in2 .ensures)
 
 returns : tie.Need-returns
 returns c =

@@ -22,8 +22,8 @@ add-end c =
     let t = told (a .kind) (a .key .now) (a .front .now) (p .pre .0) (a .n) (a .m) (a .s .now) (p .pre .1) in
     search needs
 
-part-front-end : tie.Need-part-front-end
-part-front-end c =
+part-text-start-end : tie.Need-part-text-start-end
+part-text-start-end c =
     let p = c .before .before .before .before .before .before .before .before .before .before in
     let a = p .args in
     let t = told (a .kind) (a .key .now) (a .front .now) (p .pre .0) (a .n) (a .m) (a .s .now) (p .pre .1) in
@@ -55,8 +55,8 @@ module _ (c : tie.After-nonce2) where
       (λ i. textOf (c .before .before .before .before .before .suite .ensures i) (key i) (nonce i) (part i))
       ∙ sym (opened-is-text (a .kind) (a .key .now) (a .front .now) (p .pre .0) (a .n) (a .m) (a .s .now) (p .pre .1))
 
-front-requires : tie.Need-front-requires
-front-requires c κs =
+text-start-requires : tie.Need-text-start-requires
+text-start-requires c κs =
     let h = c .before .before in
     let p = h .before .before .before .before .before .before .before .before .before .before in
     let a = p .args in
@@ -80,9 +80,9 @@ returns c =
     let p = h .before .before .before .before .before .before .before .before .before .before in
     let a = p .args in
     let t = unitOpened (kindOf (a .kind)) (a .key .now) (a .front .now) (a .n) (a .m) (a .s .now) in
-    let left = f .front .last .1 .1 .1 .1 .0 in
-    let r = f .front .result in
-    let e = f .front .ensures in
+    let left = f .text-start .last .1 .1 .1 .1 .0 in
+    let r = f .text-start .result in
+    let e = f .text-start .ensures in
     let is : r ≡ sourceLength t = e .length-is ∙ ap sourceLength (text-is h) in
     let fit = source-within (a .kind) (a .key .now) (a .front .now) (p .pre .0) (a .n) (a .m) (a .s .now) (p .pre .1) in
     record {
@@ -107,7 +107,7 @@ source-spec =
     (λ c. search needs)
     (λ c. search needs)
     (λ c. search needs)
-    part-front-end
-    front-requires
+    part-text-start-end
+    text-start-requires
     (λ c. search needs)
     returns)

@@ -13,8 +13,8 @@ use Rattle.fields.specs.Unit.{sourceLength}
 use Rattle.text_blocks.specs.Text.{Part}
 use Rattle.sealing.specs.Passes.{textOf, textPart}
 use Rattle.sources.proofs.Text.{text-long, text-front, text-part, stated-front, front-enough, front-joined}
-use Rattle.sources.proofs.front.Statement.{statement}
-use Rattle.sources.proofs.front.Tie as tie
+use Rattle.sources.proofs.text_start.Statement.{statement}
+use Rattle.sources.proofs.text_start.Tie as tie
 
 -- n bytes of m at the start: whole blocks, or all
 start-part : (m n : ℕ) → m ≤ 2 ^ 24 → n ≡ min m 16 → Part m 0 n
@@ -179,8 +179,8 @@ returns-2 c =
       long = held-long w;
     }
 
-pub front-spec : {M : Type 1} → statement M
-front-spec =
+pub text-start-spec : {M : Type 1} → statement M
+text-start-spec =
     tie.close
     (tie.spec
     (λ c κs. search needs)
