@@ -249,11 +249,14 @@ uint32_t sb_score(const uint8_t *source, size_t source_len, const uint8_t *typed
 
 /* Compares a typed sentence of any length, also an empty one, with every unit of a book under its key of 16 bytes: writes a row
  * for each unit, in the order of the book, to the start of page, and leaves every other byte of page as it was. *len is then
- * SB_ROW_LEN times the number of units. A row is the length of the source in bytes, right-aligned in 5 columns, two blanks,
- * sb_score of the source and the typed sentence, right-aligned in 4 columns, and a line feed: "    5   857\n" for a source
- * "valve" and a typed "valves". No zero byte stands behind the rows. The whole book is checked, as by sb_check, before anything
- * is written. Compare it with its receipt (above) first: a book that was made shorter on the way is not refused. A slice of
- * length 0 may be null.
+ * SB_ROW_LEN times the number of units; SB_ROW_LEN * SB_UNITS_MAX bytes of page are always enough. A row is the length of the
+ * source in bytes, right-aligned in 5 columns, two blanks, sb_score of the source and the typed sentence, right-aligned in 4
+ * columns, and a line feed: "    5   857\n" for a source "valve" and a typed "valves". No zero byte stands behind the rows. The
+ * whole book is checked, as by sb_check, before anything is written. It is read twice, and must not change during the call.
+ * Compare it with its receipt (above) first: a book that was made shorter on the way is not refused. A slice of length 0 may be
+ * null.
+ * It takes sb_check's time and about half of it again; a typed sentence of over SB_SEGMENT_MAX bytes is gone over once for each
+ * unit, and bytes can be chosen to be slow (docs/SPEED.md).
  * Refusals, the first that applies: those of sb_check in their order, then 7; then page and *len are as they were. */
 uint32_t sb_page(const uint8_t *key, size_t key_len, const uint8_t *book, size_t book_len, const uint8_t *typed, size_t typed_len,
                  uint8_t *page, size_t page_len, uint64_t *len);

@@ -176,7 +176,8 @@ impl<B: AsRef<[u8]>> Book<B> {
     /// feed.
     ///
     /// The whole book is checked once more, and then each source is opened, one after the other, in time linear in
-    /// the book's length. The page takes 12 bytes a unit.
+    /// the book's length; a typed sentence of over 4,096 bytes is gone over once for each unit. The page takes 12
+    /// bytes a unit.
     ///
     /// # Errors
     ///

@@ -40,8 +40,7 @@
 //!
 //! # What stands below
 //!
-//! All of this calls a static library, which is proved to do what the ciphers' definition and the book's
-//! say, for all inputs; [`raw`] has its functions one to one. This crate adds memory and types, and is
+//! All of this calls a static library, which is proved to do what its definitions say, for all inputs; [`raw`] has its functions one to one. This crate adds memory and types, and is
 //! tested, not proved. docs/PROOFS.md says what is proved, and docs/SECURITY.md what is promised and what a
 //! user has to see to.
 //!

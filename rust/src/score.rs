@@ -10,8 +10,8 @@ use crate::raw;
 /// letter of two bytes is two, and a capital is another letter.
 ///
 /// Where one of them has at most 4,096 bytes, as any segment of a book, the time grows with the length of the two
-/// together, for ordinary texts and for such as repeat themselves. Of two longer ones it may take some hundred
-/// times as long, and so it may where bytes were chosen for that.
+/// together, for ordinary texts and for such as repeat themselves. Of two longer ones it may take some hundreds
+/// of times as long, and so it may where bytes were chosen for that.
 ///
 /// ```
 /// use sealed_book::score;

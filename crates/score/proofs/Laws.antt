@@ -53,7 +53,7 @@ equal-sym x y = at (equalSegments x y) (equalSegments y x) refl refl
     at true false p q = sym (equal-self x) ∙ ap (λ z. equalSegments z x) (equal-means x y p) ∙ q
     at false true p q = sym p ∙ ap (λ z. equalSegments z y) (sym (equal-means y x q)) ∙ equal-self y
 
--- "the score is at most 1,000"
+-- the score is at most 1,000
 pub score-by-le : (c n : ℕ) (equal : Bool) → 2 * c ≤ n → scoreBy c n equal ≤ 1000
 unfolding scoreBy
 score-by-le c n equal h = at (eqb n 0) equal

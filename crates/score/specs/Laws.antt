@@ -9,7 +9,7 @@ use Rattle.trigrams.specs.Trigrams.{trigrams, shared}
 use Rattle.score.specs.Score.{equalSegments, score}
 
 pub record ScoreLaws : Type 0 where
-  -- "the score is at most 1,000"
+  -- the score is at most 1,000
   pub most : (x y : List ℕ) → score x y ≤ 1000
   -- a segment scores 1,000 against itself
   pub self : (x : List ℕ) → score x x ≡ 1000
