@@ -5,3 +5,4 @@ pub mod Bytes
 pub mod Fronts
 pub mod Lists
 pub mod Tests
+pub mod Same

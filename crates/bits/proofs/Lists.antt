@@ -1,11 +1,11 @@
 -- Laws of lists given by index.
 use mathlib.Core.Path.{_≡_, refl, sym, ap, _∙_}
-use mathlib.Core.List.{List}
+use mathlib.Core.List.{List, _∷_}
 use Prim.Native.Nat.{ℕ, zero, suc, _+_, _-_, _≤_, _<_}
 use native.Mathlib.Nat.{zero-lt-suc}
 use native.Mathlib.Decide.{ℕ-discrete}
 use native.Mathlib.Omega.{arith}
-use lib.ListN.{length, getD, set, take, drop, length-set, length-drop}
+use lib.ListN.{length, getD, set, take, drop, replicate, length-set, length-drop}
 use lib.Seq.{ext-getD, getD-set-same, getD-set-other, getD-take, getD-drop, length-take-le, take-all}
 use Rattle.bits.specs.Table.{tab}
 
@@ -23,6 +23,16 @@ pub getD-tab-out : (k : ℕ) (f : ℕ → ℕ) (i : ℕ) → k ≤ i → getD (t
 getD-tab-out zero f i h = refl
 getD-tab-out (suc k) f (suc i) h = getD-tab-out k (λ j. f (suc j)) i (omega arith)
 getD-tab-out (suc k) f zero h = absurd (omega arith)
+
+-- one element again and again
+pub tab-same : (n v : ℕ) → tab n (λ i. v) ≡ replicate n v
+tab-same zero v = refl
+tab-same (suc n) v = ap (λ (l : List ℕ). v ∷ l) (tab-same n v)
+
+pub getD-zeros : (n i : ℕ) → _≡_ {A = ℕ} (getD (replicate n 0) i 0) 0
+getD-zeros zero i = refl
+getD-zeros (suc n) zero = refl
+getD-zeros (suc n) (suc i) = getD-zeros n i
 
 pub tab-ext : (k : ℕ) (f g : ℕ → ℕ) → ((i : ℕ) → i < k → f i ≡ g i) → tab k f ≡ tab k g
 tab-ext zero f g e = refl

@@ -1,11 +1,10 @@
 -- Of every string that check accepts the page has the rows of the units of each list of calls that leaves it.
 use mathlib.Core.Path.{_≡_, refl, sym, ap, _∙_}
-use mathlib.Core.List.{List, [], _∷_, _++_}
+use mathlib.Core.List.{List, _++_}
 use Prim.Native.Nat.{ℕ, _*_}
 use native.Mathlib.Omega.{arith}
 use lib.ListN.{length, drop}
-use Rattle.bits.specs.Bytes.{Bytes}
-use Rattle.suites.specs.Told.{Told, gives, refuses}
+use Rattle.suites.specs.Told.{Told, refuses}
 use Rattle.kinds.specs.declared.Kind.{Kind as BookKind}
 use Rattle.kinds.specs.Kind.{kindOf, bookKind}
 use Rattle.kinds.proofs.Formed.{formed}

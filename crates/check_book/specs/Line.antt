@@ -2,7 +2,7 @@
 -- bytes, and prints one line ended by a line feed: `ok units=1 calls=7` (decimal; case 8's book) or `refused 8` (the refusal), or `too long`
 -- for a longer book."
 use mathlib.Core.Bool.{cond}
-use mathlib.Core.List.{List, [], _∷_, _++_}
+use mathlib.Core.List.{List, _++_}
 use Prim.Native.Nat.{ℕ, _+_}
 use lib.Dec.{leb}
 use lib.ListN.{length, take, drop}

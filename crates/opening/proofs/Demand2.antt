@@ -1,15 +1,12 @@
 -- Demand 2 holds.
 use mathlib.Core.Path.{_≡_, refl, sym, ap, _∙_}
-use mathlib.Core.Bool.{Bool, true, false, _&&_, and-eq-true-iff}
+use mathlib.Core.Bool.{Bool, true, false}
 use mathlib.Core.Logic.{_⊎_, inl, inr}
 use mathlib.Core.List.{List, [], _∷_, _++_}
-use Prim.Native.Nat.{ℕ, zero, suc, _+_, _-_, _≤_, _<_}
-use native.Mathlib.Decide.{ℕ-discrete}
+use Prim.Native.Nat.{ℕ, _+_, _-_, _≤_, _<_}
 use native.Mathlib.Omega.{arith}
-use borrow.Author.Tests.{eqb-true, eq-eqb}
-use lib.Dec.{eqb}
 use lib.ListN.{length, getD, take, drop, length-drop}
-use lib.Seq.{ext-getD, take-at, length-take-le}
+use lib.Seq.{take-at, length-take-le}
 use Rattle.bits.specs.Bytes.{Bytes}
 use Rattle.calls.specs.Calls.{checksum, calls}
 use Rattle.calls.specs.Pieces.{through, headerSum}
@@ -43,30 +40,12 @@ use Rattle.opening.specs.Demand2.{
   Differs,
   Demand2,
 }
+use Rattle.bits.proofs.Same.{same-equal, same-refl}
 use Rattle.opening.specs.Open.{ciphertext, opened, agrees, thenTag, openReport, openOutcome, openAnswer, openBuffer, openTold}
 use Rattle.sealing.specs.Seal.{sealed, sealOutcome, sealReport, sealAnswer, sealBuffer, sealTold, written}
 use Rattle.sealing.proofs.One.{inverse, sealed-one}
 use Rattle.opening.proofs.Answers.{open-done}
 use Rattle.opening.proofs.Opened.{opened-long}
-
--- strings that are compared byte by byte
-same-all : (n : ℕ) (x y : List ℕ) → sameBytes n x y ≡ true → (i : ℕ) → i < n → getD x i 0 ≡ getD y i 0
-same-all zero x y e i h = absurd (omega arith)
-same-all (suc n) x y e i h = last (ℕ-discrete i n) (λ l. same-all n x y (both .0) i l)
-  where
-    both : (sameBytes n x y ≡ true) × (eqb (getD x n 0) (getD y n 0) ≡ true)
-    both = and-eq-true-iff (sameBytes n x y) (eqb (getD x n 0) (getD y n 0)) .0 e
-
-    last : Dec (i ≡ n) → (i < n → getD x i 0 ≡ getD y i 0) → getD x i 0 ≡ getD y i 0
-    last (yes p) r = rw p (eqb-true (getD x n 0) (getD y n 0) (both .1))
-    last (no d) r = r (omega arith)
-
-same-equal : (n : ℕ) (x y : List ℕ) → length x ≡ n → length y ≡ n → sameBytes n x y ≡ true → x ≡ y
-same-equal n x y lx ly e = ext-getD 0 x y (lx ∙ sym ly) (λ i h. same-all n x y e i (rw lx at h))
-
-same-refl : (n : ℕ) (x : List ℕ) → sameBytes n x x ≡ true
-same-refl zero x = refl
-same-refl (suc n) x = λ i. same-refl n x i && eq-eqb (getD x n 0) (getD x n 0) refl i
 
 -- what tests that refuse with n tell of sealing and of opening, and what is left of the output
 module _ (n : ℕ) (some : 0 < n) (result out : List ℕ) where

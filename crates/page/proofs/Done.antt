@@ -1,6 +1,6 @@
 -- A page of which the rows of the first n units are put.
-use mathlib.Core.Path.{_≡_, refl, sym, ap, subst, _∙_}
-use mathlib.Core.List.{List, [], _∷_, _++_, append-assoc, append-nil}
+use mathlib.Core.Path.{_≡_, refl, sym, ap, _∙_}
+use mathlib.Core.List.{List, [], _++_, append-assoc, append-nil}
 use Prim.Native.Nat.{ℕ, suc, _+_, _-_, _*_, _≤_, _<_}
 use native.Mathlib.Omega.{arith}
 use lib.ListN.{length, take, drop, length-drop, take-append-drop}
@@ -13,7 +13,7 @@ use Rattle.parser.specs.Frame.{afterUnit}
 use Rattle.seals.specs.Parts.{Under}
 use Rattle.seals.proofs.Verified.{after-unit-is}
 use Rattle.page.specs.Page.{row, rows, ciphertextLength, sourceAt, sourcesFrom}
-use Rattle.page.specs.Units.{UnitThere, Units, none, more}
+use Rattle.page.specs.Units.{UnitThere, Units, more}
 use Rattle.page.proofs.Pages.{told-there, row-long, withLine, line-front, line-back, line-long}
 
 pub record RowsDone (kind : Kind) (key o typed s : List ℕ) (units : ℕ) (old : List ℕ) (place at n : ℕ) (out : List ℕ) : Type 0 where

@@ -1,14 +1,14 @@
 -- The units of a book that check accepts, and the rows of their sources.
 use mathlib.Core.Path.{_≡_, refl, sym, ap, _∙_}
 use mathlib.Core.Bool.{Bool}
-use mathlib.Core.List.{List, [], _∷_, _++_, append-assoc}
+use mathlib.Core.List.{List, _++_, append-assoc}
 use Prim.Native.Nat.{ℕ, zero, suc, _+_, _-_, _*_, _≤_, _<_}
 use native.Mathlib.Omega.{arith}
 use borrow.Author.Tests.{le-leb, lt-leb}
 use borrow.Rule.Slice.PartMut.{same-len-mid, mid-len, drop-put}
 use lib.Dec.{leb}
-use lib.ListN.{length, take, drop, length-append, take-append-drop}
-use lib.Seq.{take-at, drop-at, drop-drop, length-take-le}
+use lib.ListN.{length, take, drop, length-append}
+use lib.Seq.{take-at, length-take-le}
 use Rattle.suites.specs.declared.refusal.Answer.{Answer}
 use Rattle.suites.specs.declared.refusal.Answer.the-variants.{Done, Refused}
 use Rattle.suites.specs.declared.refusal.Refusal.{Refusal}
@@ -16,10 +16,9 @@ use Rattle.suites.specs.declared.refusal.Refusal.the-variants.{OutputTooShort}
 use Rattle.limits.specs.Tests.{unless}
 use Rattle.sealing.specs.Seal.{written}
 use Rattle.fields.specs.Kind.{Kind}
-use Rattle.fields.specs.Unit.{sourceOf}
 use Rattle.kinds.specs.declared.Kind.{Kind as BookKind}
 use Rattle.kinds.specs.Kind.{kindOf, bookKind}
-use Rattle.kinds.specs.Lengths.{frameLength, unitCalls, closeCalls}
+use Rattle.kinds.specs.Lengths.{unitCalls, closeCalls}
 use Rattle.parser.specs.declared.frame.Frame.{Frame}
 use Rattle.parser.specs.declared.frame.Frame.the-variants.{Unit, Close, Refused as FrameRefused}
 use Rattle.parser.specs.Frame.{mostUnits, afterUnit, frameAt}
@@ -28,10 +27,9 @@ use Rattle.parser.proofs.Frames.{UnitTold, unit-length}
 use Rattle.seals.specs.Parts.{Under}
 use Rattle.seals.specs.Seal.{unitSealTests, closeSealTests}
 use Rattle.seals.proofs.Tested.{tested-under}
-use Rattle.seals.proofs.Verified.{after-unit-is}
 use Rattle.checker.specs.declared.check.CheckAnswer.{CheckAnswer}
 use Rattle.checker.specs.declared.check.CheckAnswer.the-variants.{Accepted, Refused as CheckRefused}
-use Rattle.checker.specs.Check.{checkedAt, byFrame, checkFrom, afterTests, checkAnswerOf, checkAnswer}
+use Rattle.checker.specs.Check.{checkedAt, checkFrom, afterTests, checkAnswerOf, checkAnswer}
 use Rattle.checker.proofs.From.{from-step}
 use Rattle.checker.proofs.Sealed.{unit-sealed}
 use Rattle.checker.proofs.Turns.{unit-there}

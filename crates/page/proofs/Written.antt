@@ -1,13 +1,13 @@
 -- The sources of a book that was written.
-use mathlib.Core.Path.{_≡_, refl, sym, ap, subst, _∙_}
+use mathlib.Core.Path.{_≡_, refl, sym, ap, _∙_}
 use mathlib.Core.List.{List, [], _∷_, _++_, map, append-assoc}
 use Prim.Native.Nat.{ℕ, suc, _+_, _^_, _≤_, _<_}
 use native.Mathlib.Omega.{arith}
-use lib.ListN.{length, drop}
+use lib.ListN.{length}
 use lib.Seq.{drop-at}
 use Rattle.bits.specs.Bytes.{Bytes}
 use Rattle.suites.specs.declared.suite.Suite.{Suite}
-use Rattle.fields.specs.Each.{EachFrom, noneFrom, moreFrom}
+use Rattle.fields.specs.Each.{EachFrom, moreFrom}
 use Rattle.fields.specs.Kind.{Kind, WellFormed}
 use Rattle.fields.specs.Unit.{BookUnit, Allowed, unitText, sourceOf}
 use Rattle.fields.proofs.Texts.{sourceOf-unitText}
@@ -22,7 +22,7 @@ use Rattle.parser.specs.Opening.{openingNumber, openingSuite, openingBytes, aft
 use Rattle.parser.proofs.Frames.{readable}
 use Rattle.parser.proofs.Openings.{front-here, front-says}
 use Rattle.seals.specs.Seal.{unitOpened}
-use Rattle.checker.proofs.BookKinds.{OwnKind, own-kind}
+use Rattle.checker.proofs.BookKinds.{own-kind}
 use Rattle.checker.proofs.Units.{unit-written, unit-opened}
 use Rattle.page.specs.Page.{ciphertextLength, sourceAt, sourcesFrom}
 use Rattle.page.proofs.Pages.{there}

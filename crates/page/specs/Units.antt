@@ -1,7 +1,7 @@
 -- What the code that writes a page asks for and hands on; no entry point's contract speaks of it.
 use mathlib.Core.Path.{_≡_}
 use mathlib.Core.List.{List}
-use Prim.Native.Nat.{ℕ, zero, suc, _≤_}
+use Prim.Native.Nat.{ℕ, suc}
 use lib.ListN.{length}
 use Rattle.fields.specs.Kind.{Kind}
 use Rattle.kinds.specs.Lengths.{frameLength}

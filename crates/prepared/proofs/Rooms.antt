@@ -1,19 +1,18 @@
 -- The room that a tally is made in.
-use mathlib.Core.Path.{_≡_, refl, sym, _∙_}
+use mathlib.Core.Path.{_≡_, sym, ap, _∙_}
 use mathlib.Core.List.{List, _++_}
-use Prim.Native.Nat.{ℕ, zero, suc, _+_, _-_, _≤_, _<_}
-use native.Mathlib.Decide.{ℕ-discrete, decLt}
+use Prim.Native.Nat.{ℕ, _+_, _-_, _≤_, _<_}
 use native.Mathlib.Omega.{arith}
-use lib.ListN.{length, getD, set, take, drop, replicate, length-replicate, List·getD-eq-default, List·getD-append}
-use lib.Seq.{getD-set-same, getD-set-other, getD-take, length-take-le}
+use lib.ListN.{length, getD, take, drop, replicate, length-replicate, List·getD-append}
+use lib.Seq.{getD-take, length-take-le}
 use Rattle.bits.proofs.Fronts.{front-long}
 use Rattle.trigrams.specs.Trigrams.{trigrams}
 use Rattle.trigrams.proofs.Trigrams.{length-trigrams}
 use Rattle.tally.specs.Tally.{node, nodeOf}
 use Rattle.tally.specs.Code.{Empty, Counted, Compared}
 use Rattle.tally.proofs.Tallies.{node-le}
-use Rattle.score.proofs.Zeros.{getD-zeros}
-use Rattle.prepared.specs.Prepared.{Cleared, Room, Prepared}
+use Rattle.bits.proofs.Lists.{getD-zeros}
+use Rattle.prepared.specs.Prepared.{Room, Prepared}
 
 -- zeros are room
 pub room-zeros : Room (replicate 2048 0) (replicate 4096 0) (replicate 4096 0) (replicate 4096 0) (replicate 4096 0)
@@ -27,35 +26,14 @@ room-zeros = record {
   none = getD-zeros 4096 0;
 }
 
--- the first i are 0
-pub record ZeroTo (i : ℕ) (l : List ℕ) : Type 0 where
-  pub zero : (j : ℕ) → j < i → getD l j 0 ≡ 0
-
-pub zero-more : (l : List ℕ) (i : ℕ) → i < length l → ZeroTo i l → ZeroTo (i + 1) (set l i 0)
-zero-more l i h z = record { zero = zeros }
-  where
-    zeros : (j : ℕ) → j < i + 1 → getD (set l i 0) j 0 ≡ 0
-    zeros j p = at (ℕ-discrete j i)
-      where
-        at : Dec (j ≡ i) → getD (set l i 0) j 0 ≡ 0
-        at (yes e) = rw e (getD-set-same l i 0 0 h)
-        at (no d) = getD-set-other l i j 0 0 d ∙ z .zero j (omega arith)
-
-pub zero-all : (l : List ℕ) (i : ℕ) → length l ≤ i → ZeroTo i l → (h : ℕ) → getD l h 0 ≡ 0
-zero-all l i e z h = at (decLt h i)
-  where
-    at : Dec (h < i) → getD l h 0 ≡ 0
-    at (yes p) = z .zero h p
-    at (no d) = List·getD-eq-default l 0 {n = h} (omega arith)
-
 -- room whose heads were cleared
-pub room-empty : {head next counts keys work cleared : List ℕ} → Room head next counts keys work → Cleared head cleared
+pub room-empty : {head next counts keys work cleared : List ℕ} → Room head next counts keys work → cleared ≡ replicate (length head) 0
     → (s : List ℕ) → length s ≤ 4096 → Empty s cleared next counts keys
-room-empty r c s h = record {
-  heads = c .none;
+room-empty {head} r c s h = record {
+  heads = λ k. ap (λ (l : List ℕ). getD l k 0) c ∙ getD-zeros (length head) k;
   down = r .down;
   none = r .none;
-  wide = c .long ∙ r .headLong;
+  wide = ap length c ∙ length-replicate {A = ℕ} (length head) 0 ∙ r .headLong;
   long = r .countsLong ∙ sym (r .nextLong);
   keyed = r .keysLong ∙ sym (r .nextLong);
   room = rw (r .nextLong) (omega arith);

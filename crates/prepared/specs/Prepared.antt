@@ -10,11 +10,6 @@ use Rattle.tally.specs.Code.{Counted}
 abbrev pub longestCounted : ℕ
 longestCounted = 4096
 
--- heads, of which every chain is empty
-pub record Cleared (old head : List ℕ) : Type 0 where
-  pub none : (h : ℕ) → getD head h 0 ≡ 0
-  pub long : length head ≡ length old
-
 -- room, in which nothing need be counted
 pub record Room (head next counts keys work : List ℕ) : Type 0 where
   pub headLong : length head ≡ 2048

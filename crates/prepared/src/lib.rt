@@ -3,16 +3,17 @@
 ghost use mathlib.Core.Path.{_≡_};
 ghost use mathlib.Core.List.{_++_};
 ghost use Prim.Native.Nat.{_≤_};
-ghost use lib.ListN.{length, take, drop};
+ghost use lib.ListN.{length, take, drop, replicate};
 ghost use Rattle.score.specs.Score.{score};
-ghost use Rattle.prepared.specs.Prepared.{Cleared, Room, Prepared};
+ghost use Rattle.prepared.specs.Prepared.{Room, Prepared};
 
 // Nothing is counted any more.
 fn clear(head: &mut [u16])
-    ensures { λ _. ⌜ Cleared (now (head .entry)) (now (head .exit)) ⌝ }
+    ensures { λ _. ⌜ now (head .exit) ≡ replicate (length (now (head .entry))) 0 ⌝ }
 {
+    let n = head.len();
     let mut i: usize = 0;
-    while i < head.len() {
+    while i < n {
         head[i] = 0;
         i += 1;
     }

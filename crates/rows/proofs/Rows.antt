@@ -1,18 +1,14 @@
 -- Columns and rows: their lengths, and a row put together.
-use mathlib.Core.Path.{_≡_, refl, sym, ap, _∙_}
+use mathlib.Core.Path.{_≡_, refl, sym, _∙_}
 use mathlib.Core.List.{List, [], _∷_, _++_}
-use Prim.Native.Nat.{ℕ, zero, suc, _+_, _-_, _≤_, _<_, _^_}
+use Prim.Native.Nat.{ℕ, _-_, _≤_}
 use native.Mathlib.Omega.{arith}
-use lib.ListN.{length, getD, set, take, drop, replicate, length-append, length-replicate, length-drop}
+use lib.ListN.{length, getD, set, take, drop, replicate, length-append, length-replicate}
 use Rattle.bits.specs.Table.{tab}
 use Rattle.bits.proofs.Lists.{tab-getD}
 use Rattle.decimal.specs.Decimal.{digits}
 use Rattle.decimal.proofs.Digits.{digits-fit}
 use Rattle.rows.specs.Row.{rightAligned, rowOf}
-
-pub tab-same : (n v : ℕ) → tab n (λ i. v) ≡ replicate n v
-tab-same zero v = refl
-tab-same (suc n) v = ap (λ (l : List ℕ). v ∷ l) (tab-same n v)
 
 pub length-rightAligned : (w n : ℕ) → length (digits n) ≤ w → length (rightAligned w n) ≡ w
 unfolding rightAligned

@@ -1,48 +1,32 @@
 -- Laws of the score.
 use mathlib.Core.Path.{_≡_, refl, sym, ap, _∙_}
-use mathlib.Core.Bool.{Bool, true, false, _&&_, cond}
+use mathlib.Core.Bool.{Bool, true, false, cond, and-eq-true-iff}
 use mathlib.Core.List.{List}
-use Prim.Native.Nat.{ℕ, zero, suc, _+_, _*_, _/_, _≤_, _<_}
-use native.Mathlib.Nat.{add-comm, div-le-of-le-mul, div-eq-of-eq-mul-left}
+use Prim.Native.Nat.{ℕ, _+_, _*_, _/_, _≤_}
+use native.Mathlib.Nat.{add-comm, div-eq-of-eq-mul-left}
 use native.Mathlib.Decide.{ℕ-discrete}
 use native.Mathlib.Omega.{arith}
 use borrow.Author.Tests.{eqb-true, eq-eqb, ne-eqb}
 use lib.Dec.{eqb}
-use lib.ListN.{length, getD}
-use lib.Seq.{ext-getD}
+use lib.ListN.{length}
 use Rattle.bits.specs.Bytes.{sameBytes}
+use Rattle.bits.proofs.Same.{same-equal, same-refl}
 use Rattle.trigrams.specs.Trigrams.{trigrams, shared}
 use Rattle.trigrams.proofs.Common.{shared-le, shared-le-left, shared-self, shared-sym}
 use Rattle.score.specs.Score.{equalSegments, scoreBy, score}
 use Rattle.score.specs.Laws.{ScoreLaws}
-
-both-true : (a b : Bool) → a && b ≡ true → (a ≡ true) × (b ≡ true)
-both-true true b h = (refl, h)
-both-true false true h = (h, refl)
-both-true false false h = (h, h)
-
-same-self : (n : ℕ) (x : List ℕ) → sameBytes n x x ≡ true
-same-self zero x = refl
-same-self (suc n) x = rw (same-self n x, eq-eqb (getD x n 0) (getD x n 0) refl)
-
-same-at : (n : ℕ) (x y : List ℕ) → sameBytes n x y ≡ true → (i : ℕ) → i < n → getD x i 0 ≡ getD y i 0
-same-at zero x y e i h = absurd (omega arith)
-same-at (suc n) x y e i h = at (ℕ-discrete i n) (same-at n x y (both-true (sameBytes n x y) (eqb (getD x n 0) (getD y n 0)) e .0) i)
-  where
-    at : Dec (i ≡ n) → (i < n → getD x i 0 ≡ getD y i 0) → getD x i 0 ≡ getD y i 0
-    at (yes q) r = rw q (eqb-true (getD x n 0) (getD y n 0) (both-true (sameBytes n x y) (eqb (getD x n 0) (getD y n 0)) e .1))
-    at (no d) r = r (omega arith)
+use Rattle.score.proofs.Quotients.{quotient-le}
 
 -- segments that are found equal are equal, and the other way round
 pub equal-self : (x : List ℕ) → equalSegments x x ≡ true
 unfolding equalSegments
-equal-self x = rw (eq-eqb (length x) (length x) refl) (same-self (length x) x)
+equal-self x = rw (eq-eqb (length x) (length x) refl) (same-refl (length x) x)
 
 pub equal-means : (x y : List ℕ) → equalSegments x y ≡ true → x ≡ y
 unfolding equalSegments
 equal-means x y e =
-    let b = both-true (eqb (length x) (length y)) (sameBytes (length x) x y) e in
-    ext-getD 0 x y (eqb-true (length x) (length y) (b .0)) (same-at (length x) x y (b .1))
+    let both = and-eq-true-iff (eqb (length x) (length y)) (sameBytes (length x) x y) .0 e in
+    same-equal (length x) x y refl (sym (eqb-true (length x) (length y) (both .0))) (both .1)
 
 pub equal-sym : (x y : List ℕ) → equalSegments x y ≡ equalSegments y x
 equal-sym x y = at (equalSegments x y) (equalSegments y x) refl refl
@@ -61,7 +45,7 @@ score-by-le c n equal h = at (eqb n 0) equal
     at : (b e : Bool) → cond b (cond e 1000 0) (2000 * c / n) ≤ 1000
     at true true = omega arith
     at true false = omega arith
-    at false e = div-le-of-le-mul n (omega arith)
+    at false e = quotient-le c n h
 
 pub score-le : (x y : List ℕ) → score x y ≤ 1000
 unfolding score

@@ -1,6 +1,5 @@
 pub mod Laws
 pub mod Examples
 pub mod Zeros
-pub mod Equal
 pub mod Quotients
 pub mod Scores

@@ -1,17 +1,12 @@
 -- Zeros are room in which nothing is counted.
-use mathlib.Core.Path.{_≡_, refl}
+use mathlib.Core.Path.{refl}
 use mathlib.Core.List.{List}
-use Prim.Native.Nat.{ℕ, zero, suc, _≤_, _<_}
+use Prim.Native.Nat.{ℕ, _≤_, _<_}
 use native.Mathlib.Omega.{arith}
-use lib.ListN.{length, getD, replicate, length-replicate}
+use lib.ListN.{length, replicate, length-replicate}
+use Rattle.bits.proofs.Lists.{getD-zeros}
 use Rattle.tally.specs.Code.{Empty}
 
-pub getD-zeros : (n i : ℕ) → _≡_ {A = ℕ} (getD (replicate n 0) i 0) 0
-getD-zeros zero i = refl
-getD-zeros (suc n) zero = refl
-getD-zeros (suc n) (suc i) = getD-zeros n i
-
--- zeros are room in which nothing is counted
 pub empty-zeros : (s : List ℕ) (n : ℕ) → length s ≤ n → 0 < n → n ≤ 4096
     → Empty s (replicate 2048 0) (replicate n 0) (replicate n 0) (replicate n 0)
 empty-zeros s n h p f = record {

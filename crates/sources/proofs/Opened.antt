@@ -2,13 +2,12 @@
 use mathlib.Core.Path.{_≡_, sym, ap, _∙_}
 use mathlib.Core.Bool.{true, _&&_, and-eq-true-iff}
 use mathlib.Core.List.{List, _++_}
-use Prim.Native.Nat.{ℕ, _+_, _-_, _^_, _≤_}
+use Prim.Native.Nat.{ℕ, _+_, _-_, _≤_}
 use native.Mathlib.Omega.{arith}
 use borrow.Author.Tests.{leb-true}
 use lib.Dec.{leb}
 use lib.ListN.{length, take, drop, length-drop}
 use lib.Seq.{take-at, drop-drop, length-take-le}
-use Rattle.suites.specs.declared.refusal.Answer.the-variants.{Done}
 use Rattle.limits.proofs.Passed.{unless-passed}
 use Rattle.fields.specs.Field.{fieldValue, afterField}
 use Rattle.fields.specs.Unit.{sourceLength, sourceOf, inRange, textInRange}
@@ -18,7 +17,7 @@ use Rattle.kinds.specs.Kind.{kindOf}
 use Rattle.kinds.specs.Lengths.{headerLength, ciphertextAt}
 use Rattle.format.specs.Sealings.{nonceOf}
 use Rattle.format.proofs.Lengths.{length-nonceOf}
-use Rattle.opening.specs.Open.{ciphertext, opened}
+use Rattle.opening.specs.Open.{ciphertext}
 use Rattle.opening.proofs.Opened.{opened-is}
 use Rattle.sealing.specs.Passes.{Passable, textOf}
 use Rattle.parser.specs.declared.frame.Frame.the-variants.{Unit}

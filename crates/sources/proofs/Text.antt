@@ -2,10 +2,10 @@
 use mathlib.Core.Path.{_≡_, sym, ap, _∙_}
 use mathlib.Core.Logic.{_⊎_, inl, inr}
 use mathlib.Core.List.{List, _++_, append-assoc}
-use Prim.Native.Nat.{ℕ, _+_, _-_, _*_, _%_, _^_, _≤_, _<_, min}
+use Prim.Native.Nat.{ℕ, _+_, _*_, _%_, _^_, _≤_, _<_, min}
 use native.Mathlib.Omega.{arith}
-use lib.ListN.{length, getD, take, drop, length-append, length-drop, List·getD-append}
-use lib.Seq.{take-all, take-length, take-add, take-at, drop-at, take-take, take-append-le, getD-take, length-take-le}
+use lib.ListN.{length, getD, take, drop, List·getD-append}
+use lib.Seq.{take-all, take-add, drop-at, take-take, take-append-le, getD-take, length-take-le}
 use Rattle.calls.specs.Pieces.{through}
 use Rattle.calls.proofs.ByBlocks.{length-through}
 use Rattle.suites.specs.declared.suite.Suite.{Suite}

@@ -1,5 +1,5 @@
 -- What the definitions of trigrams mean.
-use mathlib.Core.Path.{_≡_, refl}
+use mathlib.Core.Path.{_≡_}
 use mathlib.Core.List.{List}
 use Prim.Native.Nat.{ℕ, _+_, _*_}
 use Rattle.trigrams.specs.Trigrams.{trigram}

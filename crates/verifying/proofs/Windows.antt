@@ -7,6 +7,7 @@ use native.Mathlib.Omega.{arith}
 use lib.ListN.{length, getD, take, drop, replicate, drop-of-length-le}
 use lib.Seq.{getD-take, take-all, take-length, take-at}
 use Rattle.bits.proofs.Fronts.{drop-zeros}
+use Rattle.bits.proofs.Lists.{getD-zeros}
 use Rattle.calls.specs.Pieces.{through}
 use Rattle.calls.proofs.ByBlocks.{length-through}
 use Rattle.suites.specs.declared.refusal.Answer.the-variants.{Done}
@@ -61,12 +62,7 @@ module _ (s : Suite) (key nonce : List ℕ) (short : length nonce ≤ 15) (c : L
 
 -- zeros behind a string do not show
 zeros-behind : (x : List ℕ) (k w i : ℕ) → k ≤ w → getD (x ++ drop k (replicate w 0)) i 0 ≡ getD x i 0
-zeros-behind [] k w i h = ap (λ (l : List ℕ). getD l i 0) (drop-zeros k w h) ∙ zero-at (w - k) i
-  where
-    zero-at : (n i : ℕ) → getD {A = ℕ} (replicate n 0) i 0 ≡ 0
-    zero-at zero i = refl
-    zero-at (suc n) zero = refl
-    zero-at (suc n) (suc i) = zero-at n i
+zeros-behind [] k w i h = ap (λ (l : List ℕ). getD l i 0) (drop-zeros k w h) ∙ getD-zeros (w - k) i
 zeros-behind (a ∷ x) k w zero h = refl
 zeros-behind (a ∷ x) k w (suc i) h = zeros-behind x k w i h
 

@@ -1,11 +1,10 @@
 -- Blanks from the front.
-use mathlib.Core.Path.{_≡_, refl, sym, ap, _∙_}
-use Prim.Native.Nat.{ℕ, _-_, _≤_}
+use mathlib.Core.Path.{_≡_, refl, _∙_}
+use Prim.Native.Nat.{_-_, _≤_}
 use native.Mathlib.Omega.{arith}
 use borrow.Author.Needs.{needs}
 use lib.ListN.{length}
-use Rattle.bits.proofs.Lists.{Filled, filled-none, filled-more, filled-all}
-use Rattle.rows.proofs.Rows.{tab-same}
+use Rattle.bits.proofs.Lists.{tab-same, Filled, filled-none, filled-more, filled-all}
 use Rattle.rows.proofs.blanks.Statement.{statement}
 use Rattle.rows.proofs.blanks.Tie as tie
 

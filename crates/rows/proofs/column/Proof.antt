@@ -1,12 +1,11 @@
 -- Blanks, then the digits.
 use mathlib.Core.Path.{_≡_, sym, ap, _∙_}
 use mathlib.Core.List.{List, [], _++_, append-nil}
-use Prim.Native.Nat.{ℕ, _+_, _-_, _≤_}
+use Prim.Native.Nat.{ℕ, _+_, _-_}
 use native.Mathlib.Omega.{arith}
 use borrow.Author.Needs.{needs}
 use lib.ListN.{length, take, drop, replicate, length-append, length-take, length-drop, length-replicate, drop-of-length-le}
 use lib.Seq.{take-at, drop-at, length-take-le}
-use Rattle.bits.proofs.Lists.{part-rest}
 use Rattle.decimal.specs.Decimal.{digits, digitsWithin}
 use Rattle.decimal.proofs.Digits.{digitsWithin-all}
 use Rattle.rows.specs.Row.{rightAligned}

@@ -7,7 +7,7 @@ use borrow.Author.Tests.{eq-eqb, ne-eqb}
 use lib.ListN.{length}
 use Rattle.bits.specs.Bytes.{sameBytes}
 use Rattle.score.specs.Score.{equalSegments}
-use Rattle.score.proofs.Equal.{same-more, same-not}
+use Rattle.bits.proofs.Same.{same-more, same-not}
 use Rattle.score.proofs.is_equal.Statement.{statement}
 use Rattle.score.proofs.is_equal.Tie as tie
 

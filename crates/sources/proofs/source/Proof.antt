@@ -6,10 +6,10 @@ use native.Mathlib.Omega.{arith}
 use borrow.Author.Needs.{needs}
 use lib.ListN.{length, take, drop}
 use lib.Seq.{take-all}
-use Rattle.fields.specs.Unit.{sourceLength, sourceOf}
+use Rattle.fields.specs.Unit.{sourceLength}
 use Rattle.kinds.specs.Kind.{kindOf}
 use Rattle.format.specs.Sealings.{nonceOf}
-use Rattle.sealing.specs.Passes.{Passable, textOf}
+use Rattle.sealing.specs.Passes.{textOf}
 use Rattle.seals.specs.Seal.{unitOpened}
 use Rattle.sources.proofs.Opened.{told, standing, standing-long, opened-is-text, passable, source-within, source-long, source-there}
 use Rattle.sources.proofs.source.Statement.{statement}

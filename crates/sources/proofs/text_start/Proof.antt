@@ -8,7 +8,7 @@ use native.Mathlib.Omega.{arith}
 use borrow.Author.Needs.{needs}
 use borrow.Rule.Slice.PartMut.{same-len-mid}
 use lib.ListN.{length, getD, take, drop, length-append, length-drop}
-use lib.Seq.{take-at, length-take-le}
+use lib.Seq.{length-take-le}
 use Rattle.fields.specs.Unit.{sourceLength}
 use Rattle.text_blocks.specs.Text.{Part}
 use Rattle.sealing.specs.Passes.{textOf, textPart}
