@@ -92,16 +92,21 @@ linear-ext {f} {g} l h (suc k) e x hx =
     let parts : bitXor top rest ≡ x = xor-shifted (x / 2 ^ k) k rest (mod-lt x (pow-pos k)) ∙ split x k in
     ap f (sym parts) ∙ l .sum top rest ∙ (λ i. bitXor (high i) (low i)) ∙ sym (h .sum top rest) ∙ ap g parts
 
+-- the product of a row is the sum of the products of its two bytes
+pub by-halves : (m : List (List ℕ)) (x : ℕ) → x < 2 ^ 16 → bitXor (times m (x % 256)) (times m (x / 256 % 256 * 256)) ≡ times m x
+by-halves m x hx =
+    let lo : ℕ = x % 256 in
+    let hi : ℕ = x / 256 % 256 in
+    let word : bitXor lo (hi * 256) ≡ x = xor-comm lo (hi * 256) ∙ xor-shifted hi 8 lo (omega arith) ∙ omega arith in
+    sym (times-linear m .sum lo (hi * 256)) ∙ ap (times m) word
+
 -- the row's two bytes, each through its table
 pub by-bytes : (m : List (List ℕ)) (x : ℕ) → x < 2 ^ 16 → lookedUp (lows m) (highs m) x ≡ times m x
 unfolding lows highs
 by-bytes m x hx =
-    let lo : ℕ = x % 256 in
-    let hi : ℕ = x / 256 % 256 in
-    let low = getD-tab 256 (λ b. times m b) lo (omega arith) in
-    let high = getD-tab 256 (λ b. times m (b * 256)) hi (omega arith) in
-    let word : bitXor lo (hi * 256) ≡ x = xor-comm lo (hi * 256) ∙ xor-shifted hi 8 lo (omega arith) ∙ omega arith in
-    (λ i. bitXor (low i) (high i)) ∙ sym (times-linear m .sum lo (hi * 256)) ∙ ap (times m) word
+    let low = getD-tab 256 (λ b. times m b) (x % 256) (omega arith) in
+    let high = getD-tab 256 (λ b. times m (b * 256)) (x / 256 % 256) (omega arith) in
+    (λ i. bitXor (low i) (high i)) ∙ by-halves m x hx
 
 -- a matrix undoes another where it does so at each single bit
 pub undone : (m n : List (List ℕ)) → tab 16 (λ i. times n (times m (2 ^ i))) ≡ tab 16 (λ i. 2 ^ i) → (x : ℕ) → x < 2 ^ 16 → times n (times m x) ≡ x

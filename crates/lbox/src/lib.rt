@@ -1,4 +1,6 @@
 // The L-boxes: a row through four byte tables, and what that means, a matrix times the row.
+pub mod matrices;
+
 ghost use mathlib.Core.Path.{_≡_};
 ghost use Prim.Native.Nat.{_*_, _%_, _<_};
 ghost use Rattle.lbox.specs.Lbox;

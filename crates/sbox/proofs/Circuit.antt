@@ -1,9 +1,9 @@
--- Circuits of bitwise operations, run at any width: at 16 bits they are the code on rows, at 1 bit the same circuit on one column.
+-- Bit equations at two widths: at 16 bits they are the code on rows, at 1 bit the same on one column.
 use mathlib.Core.Path.{_≡_, refl, sym, ap, _∙_}
 use mathlib.Core.Bool.{Bool}
 use mathlib.Core.List.{List, [], _∷_, map}
 use Prim.Native.Nat.{ℕ, zero, suc, _-_, _^_, _<_}
-use lib.Bits.{bitAnd, bitOr, bitXor, and-lt, or-lt, xor-lt}
+use lib.Bits.{and-lt, or-lt, xor-lt}
 use lib.Dec.{T, eqb, eqb→eq, lit<}
 use lib.ListN.{getD, set, List·getD-map}
 use lib.Pow.{pow-pos, ones-sub-lt}
@@ -13,33 +13,7 @@ use Rattle.bits.proofs.Bits.{bit-lt, bit-ext, bit-and, bit-or, bit-xor, bit-not
 use Rattle.bits.proofs.Lists.{tab-ext}
 use Rattle.bits.proofs.Tests.{all, all-at}
 use Rattle.sbox.specs.Sbox.{column, layer}
-
-pub data Expr : Type 0 where
-  reg : ℕ → Expr
-  xor : Expr → Expr → Expr
-  and : Expr → Expr → Expr
-  or : Expr → Expr → Expr
-  not : Expr → Expr
-
--- put the value of an expression into a register
-pub data Instruction : Type 0 where
-  put : ℕ → Expr → Instruction
-
--- an expression's value, at a width of k bits
-abbrev pub eval : ℕ → Expr → List ℕ → ℕ
-eval k (reg i) w = getD w i 0
-eval k (xor a b) w = bitXor (eval k a w) (eval k b w)
-eval k (and a b) w = bitAnd (eval k a w) (eval k b w)
-eval k (or a b) w = bitOr (eval k a w) (eval k b w)
-eval k (not a) w = 2 ^ k - 1 - eval k a w
-
-abbrev pub run : ℕ → List Instruction → List ℕ → List ℕ
-run k [] w = w
-run k (put d e ∷ p) w = run k p (set w d (eval k e w))
-
--- eight rows, then four temporaries
-abbrev pub start : (ℕ → ℕ) → List ℕ
-start f = f 0 ∷ f 1 ∷ f 2 ∷ f 3 ∷ f 4 ∷ f 5 ∷ f 6 ∷ f 7 ∷ 0 ∷ 0 ∷ 0 ∷ 0 ∷ []
+use Rattle.sbox.specs.Circuit.{Expr, reg, xor, and, or, not, Instruction, put, eval, run, start, outcome}
 
 -- each register fits k bits
 pub record Fit (k : ℕ) (w : List ℕ) : Type 0 where
@@ -84,12 +58,6 @@ module _ (j : ℕ) (hj : j < 16) where
   bits-run {w} (put d e ∷ p) f =
       bits-run {w = set w d (eval 16 e w)} p (record { at = set-at 16 w d (eval 16 e w) (eval-fit e f) (f .at) })
       ∙ ap (run 1 p) (map-set (λ x. bit x j) w d (eval 16 e w) ∙ ap (set (map (λ x. bit x j) w) d) (bits-eval e f))
-
--- the column that the circuit makes of the column c
-abbrev outcome : List Instruction → ℕ → ℕ
-outcome p c =
-    let r : List ℕ = run 1 p (start (bit c)) in
-    gather 8 (λ i. getD r i 0)
 
 -- the circuit gives the table's entry at each of the 256 columns
 abbrev pub right : List Instruction → List ℕ → Bool

@@ -27,7 +27,8 @@ module _ (t : List ℕ) (w : List ℕ) (j : ℕ) (hj : j < 16) where
       ap (λ (x : ℕ). bit x j) (getD-tab 8 (λ i. gather 16 (λ j. bit (getD t (Sbox.column w j) 0) i)) i hi)
       ∙ bit-gather 16 (λ j. bit (getD t (Sbox.column w j) 0) i) (λ j. bit-lt (getD t (Sbox.column w j) 0) i) j hj
 
-  column-layer : getD t (Sbox.column w j) 0 < 256 → Sbox.column (Sbox.layer t w) j ≡ getD t (Sbox.column w j) 0
+  -- a column goes through the S-box
+  pub column-layer : getD t (Sbox.column w j) 0 < 256 → Sbox.column (Sbox.layer t w) j ≡ getD t (Sbox.column w j) 0
   unfolding Sbox.column
   column-layer h =
       gather-ext 8 (λ i. bit (getD (Sbox.layer t w) i 0) j) (bit (getD t (Sbox.column w j) 0)) layer-bit

@@ -1,3 +1,4 @@
 pub mod Circuit
 pub mod Listings
 pub mod Inverses
+pub mod Columns

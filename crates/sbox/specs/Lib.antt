@@ -1,1 +1,3 @@
 pub mod Sbox
+pub mod Circuit
+pub mod Equations

@@ -9,6 +9,10 @@ use Rattle.bits.specs.Table.{tab}
 unfoldable pub column : List ℕ → ℕ → ℕ
 column w j = gather 8 (λ i. bit (getD w i 0) j)
 
+-- the state that has the byte b in column 0 and zeros in the others
+unfoldable pub alone : ℕ → List ℕ
+alone b = tab 8 (bit b)
+
 -- "S-box layer: x[*, j] = S[x[*, j]]", for each of the sixteen columns; the S-box is given by its table
 unfoldable pub layer : List ℕ → List ℕ → List ℕ
 layer t w = tab 8 (λ i. gather 16 (λ j. bit (getD t (column w j) 0) i))

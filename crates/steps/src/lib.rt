@@ -27,7 +27,8 @@ pub fn constants() -> [u8; 29]
     CONSTANTS
 }
 
-fn sbox_layer(k: Cipher, w: [u16; 8]) -> [u16; 8]
+// The S-box layer of a cipher, enciphering.
+pub fn sbox_layer(k: Cipher, w: [u16; 8]) -> [u16; 8]
     ensures { λ r. ⌜ r ≡ Sbox.layer (parts k .sbox) w ⌝ }
 {
     match k {
@@ -36,7 +37,8 @@ fn sbox_layer(k: Cipher, w: [u16; 8]) -> [u16; 8]
     }
 }
 
-fn sbox_layer_back(k: Cipher, w: [u16; 8]) -> [u16; 8]
+// The S-box layer of a cipher, deciphering.
+pub fn sbox_layer_back(k: Cipher, w: [u16; 8]) -> [u16; 8]
     ensures { λ r. ⌜ r ≡ Sbox.layer (parts k .sboxInverse) w ⌝ }
 {
     match k {
@@ -59,7 +61,8 @@ fn add_constant(w: [u16; 8], c: u16) -> [u16; 8]
     x
 }
 
-fn lbox_layer<'a>(w: [u16; 8], low: &'a [u16; 256], high: &'a [u16; 256]) -> [u16; 8]
+// The L-box layer by joined tables, enciphering.
+pub fn lbox_layer<'a>(w: [u16; 8], low: &'a [u16; 256], high: &'a [u16; 256]) -> [u16; 8]
     ensures { λ r. ⌜ r ≡ tab 8 (λ i. lookedUp (now (low .entry)) (now (high .entry)) (getD w i 0)) ⌝ }
 {
     [
@@ -74,7 +77,8 @@ fn lbox_layer<'a>(w: [u16; 8], low: &'a [u16; 256], high: &'a [u16; 256]) -> [u1
     ]
 }
 
-fn lbox_layer_back<'a>(w: [u16; 8], low: &'a [u16; 256], high: &'a [u16; 256]) -> [u16; 8]
+// The L-box layer by joined tables, deciphering.
+pub fn lbox_layer_back<'a>(w: [u16; 8], low: &'a [u16; 256], high: &'a [u16; 256]) -> [u16; 8]
     ensures { λ r. ⌜ r ≡ tab 8 (λ i. lookedUp (now (low .entry)) (now (high .entry)) (getD w i 0)) ⌝ }
 {
     [

@@ -1,7 +1,9 @@
-// iScream's L-box, its own inverse: B.2.2 of the paper, four byte tables of 256 entries each, and its matrix.
+// iScream's L-box, its own inverse: B.2.2 of the paper, four byte tables of 256 entries each.
 ghost use mathlib.Core.Path.{_≡_};
+ghost use mathlib.Core.List.{[], _∷_};
 ghost use Rattle.lbox.specs.Lbox;
 ghost use Rattle.lbox.specs.Tables.{lows, highs};
+ghost use Rattle.printed.specs.Printed.{table};
 
 // Table 17: L1,1
 const T11: [u8; 256] = *b"\x00\xFF\xCC\x33\xAA\x55\x66\x99\x99\x66\x55\xAA\x33\xCC\xFF\x00\
@@ -75,25 +77,12 @@ const T22: [u8; 256] = *b"\x00\x69\x55\x3C\x33\x5A\x66\x0F\x0F\x66\x5A\x33\x3C\x
     \x69\x00\x3C\x55\x5A\x33\x0F\x66\x66\x0F\x33\x5A\x55\x3C\x00\x69\
     \x00\x69\x55\x3C\x33\x5A\x66\x0F\x0F\x66\x5A\x33\x3C\x55\x69\x00";
 
-// Its matrix: B.2.1, where row 0 is printed an entry short.
-const MATRIX: [[u8; 16]; 16] = [
-    [0, 1, 1, 1, 1, 1, 1, 1, 1, 1, 1, 1, 1, 1, 1, 1],
-    [1, 0, 0, 0, 0, 0, 1, 1, 0, 0, 1, 1, 0, 0, 1, 1],
-    [1, 0, 0, 0, 0, 1, 0, 1, 0, 1, 0, 1, 0, 1, 0, 1],
-    [1, 0, 0, 0, 1, 0, 0, 1, 1, 0, 0, 1, 1, 0, 0, 1],
-    [1, 0, 0, 1, 0, 0, 0, 1, 0, 1, 1, 0, 0, 1, 1, 0],
-    [1, 0, 1, 0, 0, 0, 0, 1, 1, 0, 1, 0, 1, 0, 1, 0],
-    [1, 1, 0, 0, 0, 0, 0, 1, 1, 1, 0, 0, 1, 1, 0, 0],
-    [1, 1, 1, 1, 1, 1, 1, 0, 0, 0, 0, 0, 0, 0, 0, 0],
-    [1, 0, 0, 1, 0, 1, 1, 0, 0, 0, 0, 0, 0, 1, 1, 1],
-    [1, 0, 1, 0, 1, 0, 1, 0, 0, 0, 0, 0, 1, 0, 1, 1],
-    [1, 1, 0, 0, 1, 1, 0, 0, 0, 0, 0, 0, 1, 1, 0, 1],
-    [1, 1, 1, 1, 0, 0, 0, 0, 0, 0, 0, 0, 1, 1, 1, 0],
-    [1, 0, 0, 1, 0, 1, 1, 0, 0, 1, 1, 1, 0, 0, 0, 0],
-    [1, 0, 1, 0, 1, 0, 1, 0, 1, 0, 1, 1, 0, 0, 0, 0],
-    [1, 1, 0, 0, 1, 1, 0, 0, 1, 1, 0, 1, 0, 0, 0, 0],
-    [1, 1, 1, 1, 0, 0, 0, 0, 1, 1, 1, 0, 0, 0, 0, 0],
-];
+// The four byte tables: each is the paper's.
+pub fn tables() -> [[u8; 256]; 4]
+    ensures { λ r. ⌜ r ≡ table 8 ∷ table 9 ∷ table 10 ∷ table 11 ∷ [] ⌝ }
+{
+    [T11, T12, T21, T22]
+}
 
 // L1,1 and L1,2 joined: what each low byte gives.
 pub fn low() -> [u16; 256]
@@ -116,11 +105,4 @@ pub fn row(x: u16) -> u16
     let low = low();
     let high = high();
     lbox::look_up(x, &low, &high)
-}
-
-// The matrix, by value: the meaning of the L-box.
-pub fn matrix() -> [[u8; 16]; 16]
-    ensures { λ r. ⌜ r ≡ Lbox.iscream ⌝ }
-{
-    MATRIX
 }

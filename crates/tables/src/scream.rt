@@ -1,7 +1,9 @@
-// Scream's L-box: A.3.2 of the paper, four byte tables of 256 entries each, and its matrix.
+// Scream's L-box: A.3.2 of the paper, four byte tables of 256 entries each.
 ghost use mathlib.Core.Path.{_≡_};
+ghost use mathlib.Core.List.{[], _∷_};
 ghost use Rattle.lbox.specs.Lbox;
 ghost use Rattle.lbox.specs.Tables.{lows, highs};
+ghost use Rattle.printed.specs.Printed.{table};
 
 // Table 8: L1,1
 const T11: [u8; 256] = *b"\x00\x38\x52\x6A\x7B\x43\x29\x11\x96\xAE\xC4\xFC\xED\xD5\xBF\x87\
@@ -75,25 +77,12 @@ const T22: [u8; 256] = *b"\x00\x4B\xAF\xE4\x33\x78\x9C\xD7\x74\x3F\xDB\x90\x47\x
     \xC5\x8E\x6A\x21\xF6\xBD\x59\x12\xB1\xFA\x1E\x55\x82\xC9\x2D\x66\
     \xD7\x9C\x78\x33\xE4\xAF\x4B\x00\xA3\xE8\x0C\x47\x90\xDB\x3F\x74";
 
-// Its matrix: row i of A.3.1 is column i here.
-const MATRIX: [[u8; 16]; 16] = [
-    [0, 1, 1, 1, 1, 0, 0, 1, 1, 1, 1, 0, 0, 1, 1, 1],
-    [0, 0, 1, 0, 0, 0, 0, 0, 1, 1, 1, 0, 1, 1, 1, 0],
-    [1, 0, 0, 0, 1, 0, 1, 1, 0, 1, 0, 1, 0, 1, 0, 0],
-    [1, 1, 0, 0, 1, 0, 0, 0, 1, 1, 0, 0, 0, 1, 1, 0],
-    [1, 0, 1, 0, 0, 0, 0, 0, 0, 0, 1, 1, 1, 0, 1, 1],
-    [0, 1, 1, 0, 1, 1, 1, 1, 0, 1, 1, 1, 0, 1, 0, 1],
-    [1, 0, 0, 1, 1, 1, 0, 0, 1, 0, 0, 1, 0, 1, 0, 0],
-    [0, 1, 1, 1, 0, 1, 0, 1, 0, 1, 0, 0, 0, 0, 0, 1],
-    [0, 0, 1, 0, 1, 0, 1, 0, 0, 1, 1, 1, 1, 0, 0, 0],
-    [0, 1, 1, 1, 1, 1, 0, 1, 1, 0, 0, 1, 1, 1, 0, 1],
-    [0, 0, 0, 1, 1, 0, 1, 1, 1, 0, 0, 1, 1, 0, 0, 0],
-    [1, 0, 1, 0, 0, 1, 0, 1, 0, 0, 0, 1, 0, 1, 0, 1],
-    [1, 1, 1, 1, 1, 1, 0, 1, 0, 1, 0, 1, 0, 1, 1, 0],
-    [1, 0, 1, 0, 0, 1, 1, 1, 0, 1, 1, 1, 1, 1, 1, 0],
-    [0, 1, 1, 0, 1, 0, 1, 1, 1, 1, 0, 1, 1, 1, 1, 0],
-    [0, 0, 0, 1, 1, 0, 1, 1, 0, 1, 1, 0, 0, 0, 0, 1],
-];
+// The four byte tables: each is the paper's.
+pub fn tables() -> [[u8; 256]; 4]
+    ensures { λ r. ⌜ r ≡ table 0 ∷ table 1 ∷ table 2 ∷ table 3 ∷ [] ⌝ }
+{
+    [T11, T12, T21, T22]
+}
 
 // L1,1 and L1,2 joined: what each low byte gives.
 pub fn low() -> [u16; 256]
@@ -116,11 +105,4 @@ pub fn row(x: u16) -> u16
     let low = low();
     let high = high();
     lbox::look_up(x, &low, &high)
-}
-
-// The matrix, by value: the meaning of the L-box.
-pub fn matrix() -> [[u8; 16]; 16]
-    ensures { λ r. ⌜ r ≡ Lbox.scream ⌝ }
-{
-    MATRIX
 }

@@ -1,7 +1,9 @@
-// The inverse of Scream's L-box: A.4.2 of the paper, four byte tables of 256 entries each, and its matrix.
+// The inverse of Scream's L-box: A.4.2 of the paper, four byte tables of 256 entries each.
 ghost use mathlib.Core.Path.{_≡_};
+ghost use mathlib.Core.List.{[], _∷_};
 ghost use Rattle.lbox.specs.Lbox;
 ghost use Rattle.lbox.specs.Tables.{lows, highs};
+ghost use Rattle.printed.specs.Printed.{table};
 
 // Table 12: L1,1
 const T11: [u8; 256] = *b"\x00\xE7\x77\x90\x2A\xCD\x5D\xBA\x63\x84\x14\xF3\x49\xAE\x3E\xD9\
@@ -75,25 +77,12 @@ const T22: [u8; 256] = *b"\x00\x54\xBE\xEA\xD8\x8C\x66\x32\xA5\xF1\x1B\x4F\x7D\x
     \xEB\xBF\x55\x01\x33\x67\x8D\xD9\x4E\x1A\xF0\xA4\x96\xC2\x28\x7C\
     \x54\x00\xEA\xBE\x8C\xD8\x32\x66\xF1\xA5\x4F\x1B\x29\x7D\x97\xC3";
 
-// Its matrix, the transpose of the L-box's: A.3.1 by rows, the last one as the tables have it.
-const MATRIX: [[u8; 16]; 16] = [
-    [0, 0, 1, 1, 1, 0, 1, 0, 0, 0, 0, 1, 1, 1, 0, 0],
-    [1, 0, 0, 1, 0, 1, 0, 1, 0, 1, 0, 0, 1, 0, 1, 0],
-    [1, 1, 0, 0, 1, 1, 0, 1, 1, 1, 0, 1, 1, 1, 1, 0],
-    [1, 0, 0, 0, 0, 0, 1, 1, 0, 1, 1, 0, 1, 0, 0, 1],
-    [1, 0, 1, 1, 0, 1, 1, 0, 1, 1, 1, 0, 1, 0, 1, 1],
-    [0, 0, 0, 0, 0, 1, 1, 1, 0, 1, 0, 1, 1, 1, 0, 0],
-    [0, 0, 1, 0, 0, 1, 0, 0, 1, 0, 1, 0, 0, 1, 1, 1],
-    [1, 0, 1, 0, 0, 1, 0, 1, 0, 1, 1, 1, 1, 1, 1, 1],
-    [1, 1, 0, 1, 0, 0, 1, 0, 0, 1, 1, 0, 0, 0, 1, 0],
-    [1, 1, 1, 1, 0, 1, 0, 1, 1, 0, 0, 0, 1, 1, 1, 1],
-    [1, 1, 0, 0, 1, 1, 0, 0, 1, 0, 0, 0, 0, 1, 0, 1],
-    [0, 0, 1, 0, 1, 1, 1, 0, 1, 1, 1, 1, 1, 1, 1, 0],
-    [0, 1, 0, 0, 1, 0, 0, 0, 1, 1, 1, 0, 0, 1, 1, 0],
-    [1, 1, 1, 1, 0, 1, 1, 0, 0, 1, 0, 1, 1, 1, 1, 0],
-    [1, 1, 0, 1, 1, 0, 0, 0, 0, 0, 0, 0, 1, 1, 1, 0],
-    [1, 0, 0, 0, 1, 1, 0, 1, 0, 1, 0, 1, 0, 0, 0, 1],
-];
+// The four byte tables: each is the paper's.
+pub fn tables() -> [[u8; 256]; 4]
+    ensures { λ r. ⌜ r ≡ table 4 ∷ table 5 ∷ table 6 ∷ table 7 ∷ [] ⌝ }
+{
+    [T11, T12, T21, T22]
+}
 
 // L1,1 and L1,2 joined: what each low byte gives.
 pub fn low() -> [u16; 256]
@@ -116,11 +105,4 @@ pub fn row(x: u16) -> u16
     let low = low();
     let high = high();
     lbox::look_up(x, &low, &high)
-}
-
-// The matrix, by value: the meaning of the L-box.
-pub fn matrix() -> [[u8; 16]; 16]
-    ensures { λ r. ⌜ r ≡ Lbox.screamInverse ⌝ }
-{
-    MATRIX
 }

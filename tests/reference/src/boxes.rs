@@ -62,7 +62,10 @@ pub fn l_layer(l: &Matrix, state: &State) -> State {
 #[cfg(test)]
 mod tests {
     use super::*;
-    use crate::printed::{ByteTables, A_4_1, ISCREAM_L, SCREAM_L, SCREAM_L_INVERSE};
+    use crate::printed::{
+        algorithm_3, algorithm_4, algorithm_5, ByteTables, A_4_1, ISCREAM_L, SCREAM_L,
+        SCREAM_L_INVERSE,
+    };
 
     /// L(b0 || b1) by the byte tables; b0 is the high byte.
     fn by_tables(t: &ByteTables, word: u16) -> u16 {
@@ -123,6 +126,24 @@ mod tests {
             for x in 0..=255u8 {
                 assert_eq!(boxes.s_inverse[usize::from(boxes.s[usize::from(x)])], x);
                 assert_eq!(boxes.s[usize::from(boxes.s_inverse[usize::from(x)])], x);
+            }
+        }
+    }
+
+    /// Sixteen states, in whose columns each byte stands once.
+    #[test]
+    fn bit_equations_give_the_printed_s_boxes() {
+        let boxes: [(&Sbox, fn(&mut State)); 3] = [
+            (scream().s, algorithm_3),
+            (scream().s_inverse, algorithm_4),
+            (iscream().s, algorithm_5),
+        ];
+        for (s, equations) in boxes {
+            for i in 0..16 {
+                let state = from_columns(&std::array::from_fn(|j| (16 * i + j) as u8));
+                let mut rows = state;
+                equations(&mut rows);
+                assert_eq!(rows, s_layer(s, &state), "columns from {:02X}", 16 * i);
             }
         }
     }

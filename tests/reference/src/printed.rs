@@ -1,5 +1,7 @@
-//! What the paper prints beside the tables in use: the inverse matrix and the L-boxes' byte tables.
+//! What the paper prints beside the tables in use: the inverse matrix, the L-boxes' byte tables, and the
+//! S-boxes as bit equations on the rows.
 
+use crate::state::State;
 use crate::tables::Matrix;
 
 /// A.4.1 as printed. Its row 4 is a misprint; a test of the boxes holds it against Tables 12 to 15.
@@ -274,3 +276,87 @@ pub static ISCREAM_L: ByteTables = ByteTables {
         0x00, 0x69, 0x55, 0x3C, 0x33, 0x5A, 0x66, 0x0F, 0x0F, 0x66, 0x5A, 0x33, 0x3C, 0x55, 0x69, 0x00,
     ],
 };
+
+/// The 5-bit S-box of Algorithm 3.
+fn five_bits(w: &mut State) {
+    w[2] ^= w[0] & w[1];
+    w[1] ^= w[2];
+    w[3] ^= w[0] & w[4];
+    w[2] ^= w[3];
+    w[0] ^= w[3] & w[1];
+    w[4] ^= w[1];
+    w[1] ^= w[2] & w[4];
+    w[1] ^= w[0];
+}
+
+/// The 5-bit S-box of Algorithm 4.
+fn five_bits_inverse(w: &mut State) {
+    w[1] ^= w[0];
+    w[1] ^= w[2] & w[4];
+    w[4] ^= w[1];
+    w[0] ^= w[3] & w[1];
+    w[2] ^= w[3];
+    w[3] ^= w[0] & w[4];
+    w[1] ^= w[2];
+    w[2] ^= w[0] & w[1];
+}
+
+/// The 3-bit S-box of both.
+fn three_bits(w: &mut State) {
+    let [.., t5, t6, t7] = *w;
+    w[5] ^= !t6 & t7;
+    w[6] ^= !t7 & t5;
+    w[7] ^= !t5 & t6;
+}
+
+/// Algorithm 3, Scream's S-box.
+pub fn algorithm_3(w: &mut State) {
+    five_bits(w);
+    w[0] ^= w[5];
+    w[1] ^= w[6];
+    w[2] ^= w[7];
+    w[3] = !w[3];
+    w[4] = !w[4];
+    three_bits(w);
+    w[5] ^= w[0];
+    w[6] ^= w[1];
+    w[7] ^= w[2];
+    five_bits(w);
+}
+
+/// Algorithm 4, its inverse.
+pub fn algorithm_4(w: &mut State) {
+    five_bits_inverse(w);
+    w[7] ^= w[2];
+    w[6] ^= w[1];
+    w[5] ^= w[0];
+    three_bits(w);
+    w[4] = !w[4];
+    w[3] = !w[3];
+    w[2] ^= w[7];
+    w[1] ^= w[6];
+    w[0] ^= w[5];
+    five_bits_inverse(w);
+}
+
+/// A round of Algorithm 5, of the four rows from `from` on, added to those from `to` on. The paper prints each
+/// wrongly; "with inputs a, b, c, d the round is t0 = (a and b) xor c, t2 = (c or b) xor d, t3 = (t0 and d)
+/// xor a, t1 = (t2 and a) xor b".
+fn four_bits(w: &mut State, from: usize, to: usize) {
+    let [a, b, c, d] = [w[from], w[from + 1], w[from + 2], w[from + 3]];
+    let t0 = (a & b) ^ c;
+    let t2 = (c | b) ^ d;
+    let t3 = (t0 & d) ^ a;
+    let t1 = (t2 & a) ^ b;
+    w[to] ^= t0;
+    w[to + 1] ^= t1;
+    w[to + 2] ^= t2;
+    w[to + 3] ^= t3;
+}
+
+/// Algorithm 5, iScream's S-box.
+pub fn algorithm_5(w: &mut State) {
+    four_bits(w, 4, 0);
+    four_bits(w, 0, 4);
+    four_bits(w, 4, 0);
+}

@@ -5,15 +5,15 @@
 
 mod common;
 
-use std::env;
 use std::fs::{write, File};
 use std::io::{ErrorKind, Write};
-use std::path::{Path, PathBuf};
+use std::path::Path;
 use std::process::{Command, Stdio};
 use std::thread::sleep;
 use std::time::Duration;
 
 use common::parts::{close_fields, random_book, three_units, unit_fields, written, Parts};
+use common::program::program;
 use common::spoiling::{bad_codes, bad_text, damage, some_frames};
 use common::writing::unit;
 use reference::book::Book;
@@ -27,28 +27,9 @@ const SEED: u64 = 0x5052_4F47;
 /// "a book of at most 65,504 bytes"
 const MOST: usize = 65_504;
 
-fn program() -> PathBuf {
-    let here = Path::new(env!("CARGO_MANIFEST_DIR"));
-    let root = here
-        .ancestors()
-        .find(|dir| dir.join("crates.txt").is_file());
-    let root = root.expect("the repository's root has crates.txt");
-    let program = match env::var_os("CHECK_BOOK_BIN") {
-        Some(program) => PathBuf::from(program),
-        None => root.join("target/bin/check_book"),
-    };
-    assert!(
-        program.is_file(),
-        "there is no program {}: make it with `rt check check_book` at the repository's root, or name \
-         another in CHECK_BOOK_BIN",
-        program.display()
-    );
-    program
-}
-
 /// What the program prints when it reads from there.
 fn printed(input: Stdio, give: impl FnOnce(Option<std::process::ChildStdin>)) -> String {
-    let mut child = Command::new(program())
+    let mut child = Command::new(program("check_book"))
         .stdin(input)
         .stdout(Stdio::piped())
         .stderr(Stdio::piped())

@@ -1,6 +1,6 @@
 //! Both directions of a cipher, in the library and in the reference; sealing; writing and checking a
 //! book, fetching from it, comparing a sentence with it, and what it says in the clear; causes of refusal;
-//! and documents.
+//! programs for the shell; and documents.
 
 // Each test file uses a part of this.
 #![allow(dead_code)]
@@ -13,6 +13,7 @@ pub mod fetching;
 pub mod guarded;
 pub mod paging;
 pub mod parts;
+pub mod program;
 pub mod refused;
 pub mod sealing;
 pub mod spoiled;

@@ -4,14 +4,15 @@ use lib.ListN.{getD}
 use mir.Syntax.{w16}
 use mir.Val.{Fits}
 use Rattle.sbox.specs.Sbox
+use Rattle.sbox.specs.Equations
 use Rattle.sbox.proofs.Circuit.{circuit-is}
-use Rattle.sbox.proofs.Listings.{backward, backward-right}
+use Rattle.sbox.proofs.Listings.{scream-inverse-right}
 use Rattle.sbox.proofs.scream_inverse.layer.Statement.{statement}
 use Rattle.sbox.proofs.scream_inverse.layer.Tie as tie
 
 returns : tie.Need-returns
 returns c =
-    circuit-is Sbox.screamInverse backward backward-right (c .args .t1)
+    circuit-is Sbox.screamInverse Equations.screamInverse scream-inverse-right (c .args .t1)
     (λ i. let f : Fits w16 (getD (c .args .t1) i 0) = search needs in f .fits)
 
 pub layer-spec : {M : Type 1} → statement M

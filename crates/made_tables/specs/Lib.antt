@@ -1,0 +1,2 @@
+pub mod Makes
+pub mod Boxes

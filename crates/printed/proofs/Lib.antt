@@ -1,0 +1,2 @@
+pub mod Right
+pub mod Joined

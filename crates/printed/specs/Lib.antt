@@ -1,0 +1,3 @@
+pub mod Lboxes
+pub mod Printed
+pub mod Rule
