@@ -1,4 +1,4 @@
--- The fifteen tables of the paper in the order in which they are printed for the hardware partner.
+-- The fifteen tables of the paper, in the order in which print_tables prints them.
 use mathlib.Core.List.{List, [], _∷_}
 use Prim.Native.Nat.{ℕ}
 use lib.ListN.{getD}

@@ -16,7 +16,7 @@ pub record TextExamples : Type 0 where
   -- the first line of all, that of Table 8, and the last, that of Table 16
   pub first : lineText (table 0) 0 ≡ line "00 38 52 6A 7B 43 29 11 96 AE C4 FC ED D5 BF 87"
   pub last : lineText (table 14) 15 ≡ line "DB C2 BB 11 4B 50 6B E6 9C 25 FA 7D 82 3A A6 05"
-  -- line 5 of Table 6, where the paper's text has `DO`
+  -- the row 50 of Table 6, where the paper's text has `DO`
   pub read : lineText (table 12) 5 ≡ line "9F 31 DE E3 49 D0 59 46 54 EF 2E 3C BB 21 92 B5"
   -- 16 lines of 48 bytes, and 15 tables of these without a line between
   pub long : (t : List ℕ) → length (tableText t) ≡ 768

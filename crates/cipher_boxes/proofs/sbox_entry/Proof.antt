@@ -12,8 +12,8 @@ returns : tie.Need-returns
 unfolding sboxEntry
 returns c =
     let a = c .before .before .before .args in
-    c .first .ensures
-    ∙ ap (λ (w : List ℕ). Sbox.column w 0) (c .before .sbox-layer .ensures ∙ ap (Sbox.layer (sboxIn (a .k) (a .d))) (c .before .before .alone .ensures))
+    let w = c .before .sbox-layer .ensures ∙ ap (Sbox.layer (sboxIn (a .k) (a .d))) (c .before .before .alone .ensures) in
+    c .first .ensures ∙ ap (λ (w : List ℕ). Sbox.column w 0) w
 
 pub sbox-entry-spec : {M : Type 1} → statement M
 sbox-entry-spec = tie.close (tie.spec (λ c κs. search needs) (λ c κs. search needs) (λ c κs. search needs) returns)

@@ -38,9 +38,9 @@ loop-again c =
     let h = c .before .before .before .before in
     let a = h .before .before .args in
     let small : h .loop .b % 256 ≡ h .loop .b = omega arith in
-    let e =
-    c .half-of .ensures
-    ∙ ap (halfOf (a .to)) (c .before .times .ensures ∙ ap (Lbox.times (h .before .matrix .result)) (c .before .before .in-half .ensures ∙ ap (inHalf (a .from)) small)) in
+    let word = c .before .before .in-half .ensures ∙ ap (inHalf (a .from)) small in
+    let product = c .before .times .ensures ∙ ap (Lbox.times (h .before .matrix .result)) word in
+    let e = c .half-of .ensures ∙ ap (halfOf (a .to)) product in
     (omega arith, filled-more (h .loop .inv .1) (omega arith) (c .half-of .result) e)
 
 returns : tie.Need-returns Inv-loop μ-loop

@@ -1,14 +1,12 @@
 -- By the place: nothing past the last, else the table that the rule there makes.
 use mathlib.Core.Path.{sym, ap, _∙_}
-use Prim.Native.Nat.{_-_, _/_, _%_, _<_}
+use Prim.Native.Nat.{_-_, _<_}
 use native.Mathlib.Omega.{arith}
 use borrow.Author.Needs.{needs}
 use Rattle.bits.specs.Table.{tab}
-use Rattle.printed.specs.declared.Half.{Half}
 use Rattle.printed.specs.Rule.{Rule, made, product}
 use Rattle.printed.proofs.Right.{made-table}
-use Rattle.made_tables.specs.Boxes.{boxesAt, matrixOf, sboxOf, fromAt}
-use Rattle.made_tables.specs.declared.Boxes.{Boxes}
+use Rattle.made_tables.specs.Boxes.{matrixOf, sboxOf}
 use Rattle.made_tables.proofs.Places.{lbox-rule, sbox-place, makes-one, makes-none}
 use Rattle.made_tables.proofs.make.Statement.{statement}
 use Rattle.made_tables.proofs.make.Tie as tie
@@ -22,12 +20,11 @@ returns-2 c =
     let p = a .place in
     let h : p < 12 = c .before .before .before .before .if2 .taken in
     let l : p < 15 = omega arith in
-    let e =
-    ap (λ (x : Boxes). product (matrixOf x) (c .before .before .from-at .result) (c .before .to-at .result)) (c .before .before .before .boxes-at .ensures)
-    ∙ ap (λ (f : Half). product (matrixOf (boxesAt (p / 4))) f (c .before .to-at .result)) (c .before .before .from-at .ensures)
-    ∙ ap (λ (t : Half). product (matrixOf (boxesAt (p / 4))) (fromAt (p % 4)) t) (c .before .to-at .ensures)
-    ∙ sym (lbox-rule p h) in
-    makes-one p (a .out .now) l (c .lbox-table .ensures ∙ ap (λ (r : Rule). tab 256 (made r)) e ∙ made-table p l)
+    let x = c .before .before .before .boxes-at .ensures in
+    let f = c .before .before .from-at .ensures in
+    let t = c .before .to-at .ensures in
+    let e = (λ i. tab 256 (made (product (matrixOf (x i)) (f i) (t i)))) ∙ sym (ap (λ (r : Rule). tab 256 (made r)) (lbox-rule p h)) in
+    makes-one p (a .out .now) l (c .lbox-table .ensures ∙ e ∙ made-table p l)
 
 returns-3 : tie.Need-returns-3
 returns-3 c =

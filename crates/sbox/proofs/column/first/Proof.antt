@@ -12,7 +12,8 @@ use Rattle.sbox.proofs.column.first.Tie as tie
 returns : tie.Need-returns
 unfolding Sbox.column gather
 returns c =
-    let e7 = c .before .before .before .before .before .before .before .first-bit .ensures .0 ∙ sym (zero-add (bit (getD (c .before .before .before .before .before .before .before .before .args .t1) 7 0) 0)) in
+    let row = getD (c .before .before .before .before .before .before .before .before .args .t1) 7 0 in
+    let e7 = c .before .before .before .before .before .before .before .first-bit .ensures .0 ∙ sym (zero-add (bit row 0)) in
     let e6 = c .before .before .before .before .before .before .first-bit2 .ensures .0 in
     let e5 = c .before .before .before .before .before .first-bit3 .ensures .0 in
     let e4 = c .before .before .before .before .first-bit4 .ensures .0 in
