@@ -28,7 +28,7 @@ use Rattle.rounds.specs.declared.Cipher.the-variants.{Scream, IScream}
 use Rattle.cipher_boxes.specs.declared.Direction.{Direction}
 use Rattle.cipher_boxes.specs.declared.Direction.the-variants.{Enciphering, Deciphering}
 use Rattle.cipher_boxes.specs.Computed.{sboxIn, lboxIn, boxesIn, sboxEntry, lboxEntry, computedBy, computed}
-use Rattle.cipher_boxes.specs.TableLaw.{byFour, TableLaw}
+use Rattle.cipher_boxes.specs.TableLaw.{Served, byFour, TableLaw}
 
 -- the boxes of a cipher and direction are those that the tables are of
 sbox-is : (k : Cipher) (d : Direction) → sboxIn k d ≡ sboxOf (boxesIn k d)
@@ -75,8 +75,8 @@ module _ (k : Cipher) (d : Direction) (p b : ℕ) (hb : b < 256) (e : boxesIn k 
   unfolding sboxEntry
   by-equations l h =
       let whose : boxesIn k d ≡ boxesAt (p - 12) = rw (le-ltb p 12 l) at e in
-      let at : 12 + (p - 12) ≡ p = omega arith in
-      rw at at (last (p - 12) (omega arith))
+      let there : 12 + (p - 12) ≡ p = omega arith in
+      rw there at (last (p - 12) (omega arith))
       ∙ ap (λ (t : List ℕ). Sbox.column (Sbox.layer t (Sbox.alone b)) 0) (sbox-is k d ∙ ap sboxOf whose)
       ∙ through (boxesAt (p - 12)) b hb
       ∙ ap (λ (t : List ℕ). getD t b 0) (sbox-place p l h)
@@ -122,13 +122,20 @@ module _ (k : Cipher) (d : Direction) (w : List ℕ) where
       ∙ ap (λ (m : List (List ℕ)). Lbox.times m (getD w i 0)) (lbox-is k d)
       ∙ four-of (boxesIn k d) (getD w i 0) hw
 
+-- each box is one of a cipher in a direction
+served-by : (x : Boxes) (p : ℕ) → x ≡ boxesOf p → Served p
+served-by box.Scream p e = record { cipher = Scream; direction = Enciphering; whose = e }
+served-by box.ScreamInverse p e = record { cipher = Scream; direction = Deciphering; whose = e }
+served-by box.IScream p e = record { cipher = IScream; direction = Enciphering; whose = e }
+
 pub table-law : TableLaw
 unfolding tables
 table-law =
     record {
       many = refl;
       long = table-long;
-      same = λ p b h hb. record { made = made-is p h b hb; computed = λ k d e. computed-is k d p b hb e h };
+      same = λ p b h hb. record { by-rule = made-is p h b hb; by-layers = λ k d e. computed-is k d p b hb e h };
+      served = λ p. served-by (boxesOf p) p refl;
       columns = by-column;
       rows = by-row;
     }

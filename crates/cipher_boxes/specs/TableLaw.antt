@@ -16,8 +16,14 @@ use Rattle.cipher_boxes.specs.Computed.{sboxIn, lboxIn, boxesIn, compute
 -- "What it makes must equal 000's tables and the cipher's own S-boxes and L-boxes", at the place p and the byte b; the cipher's are those of
 -- each cipher and direction that the table is for
 pub record SameEntry (p b : ℕ) : Type 0 where
-  pub made : made (rule p) b ≡ entry p b
-  pub computed : (k : Cipher) (d : Direction) → boxesIn k d ≡ boxesOf p → computed k d p b ≡ entry p b
+  pub by-rule : made (rule p) b ≡ entry p b
+  pub by-layers : (k : Cipher) (d : Direction) → boxesIn k d ≡ boxesOf p → computed k d p b ≡ entry p b
+
+-- a cipher and a direction that the table at the place p is for
+pub record Served (p : ℕ) : Type 0 where
+  pub cipher : Cipher
+  pub direction : Direction
+  pub whose : boxesIn cipher direction ≡ boxesOf p
 
 -- "L(b0 || b1) = (L11(b1) xor L21(b0)) || (L12(b1) xor L22(b0))", by the four tables from the place p on; "b0 is the high byte, b1 the low"
 abbrev pub byFour : ℕ → ℕ → ℕ
@@ -33,6 +39,8 @@ pub record TableLaw : Type 0 where
   pub long : (p : ℕ) → p < 15 → length (table p) ≡ 256
   -- "entry for entry"
   pub same : (p b : ℕ) → p < 15 → b < 256 → SameEntry p b
+  -- no place is without a cipher and a direction
+  pub served : (p : ℕ) → Served p
   -- and so at every column and every row of every state: the layers go by the paper's tables
   pub columns : (k : Cipher) (d : Direction) (w : List ℕ) (j : ℕ) → j < 16
       → Sbox.column (Sbox.layer (sboxIn k d) w) j ≡ entry (sboxPlace (boxesIn k d)) (Sbox.column w j)

@@ -1,7 +1,6 @@
 // The fifteen tables, made from the matrices and bit equations. No table is used.
 use printed::Half;
 ghost use mathlib.Core.Path.{_≡_};
-ghost use Prim.Native.Nat.{_%_, _<_};
 ghost use Rattle.bits.specs.Table.{tab};
 ghost use Rattle.sbox.specs.Sbox;
 ghost use Rattle.printed.specs.Rule.{made, product};

@@ -13,7 +13,7 @@ abbrev pub line : String → List ℕ
 line s = ascii s ++ (0x0A ∷ [])
 
 pub record TextExamples : Type 0 where
-  -- the first line of all, that of Table 8, and the last, that of Table 16
+  -- the first line of all, which is of Table 8, and the last, of Table 16
   pub first : lineText (table 0) 0 ≡ line "00 38 52 6A 7B 43 29 11 96 AE C4 FC ED D5 BF 87"
   pub last : lineText (table 14) 15 ≡ line "DB C2 BB 11 4B 50 6B E6 9C 25 FA 7D 82 3A A6 05"
   -- the row 50 of Table 6, where the paper's text has `DO`
