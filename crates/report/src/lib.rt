@@ -1,4 +1,4 @@
-// What the programs write to standard output.
+// What the programs vectors, known and ciphertext_part write to standard output.
 use libc::STDOUT_FILENO;
 use suites::refusal::Refusal;
 

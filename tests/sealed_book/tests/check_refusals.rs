@@ -6,7 +6,7 @@ use std::fs;
 use std::path::Path;
 use std::process::Command;
 
-use common::causes::{first_is_given, sets, Cause as _};
+use common::causes::{first_is_given, sets, small_sets, Cause as _};
 use common::checking::{accepts, check_gives, checked, refuses, Answer};
 use common::parts::{close_fields, random_book, unit_fields, written, Parts};
 use common::refused::{first_of_each_set, random_case, spoiled, Cause, Cause::*, CAUSES};
@@ -34,8 +34,7 @@ fn every_set_of_causes() {
 
 #[test]
 fn each_cause_and_each_two() {
-    let mut sets = sets(&CAUSES);
-    sets.retain(|set| set.len() <= 2);
+    let sets = small_sets(&CAUSES);
     assert_eq!(sets.len(), 1 + 13 + 13 * 12 / 2);
     first_is_given(SEED + 1, &sets, 30, case);
 }
@@ -52,8 +51,7 @@ fn line(key: &[u8], book: &[u8], answer: Answer) -> String {
 /// The reader that was written from docs/FORMAT.md and docs/REFUSALS.md alone gives the same answers.
 #[test]
 fn a_reader_from_the_page() {
-    let mut sets = sets(&CAUSES);
-    sets.retain(|set| set.len() <= 2);
+    let sets = small_sets(&CAUSES);
     let mut lines = String::new();
     first_is_given(SEED + 3, &sets, 2, |random, set, name| {
         let (key, book) = random_case(random, set);

@@ -3,7 +3,7 @@
 
 mod common;
 
-use common::causes::{first_is_given, sets, Cause as _};
+use common::causes::{first_is_given, sets, small_sets, Cause as _};
 use common::fetching::{
     fetch_gives, fetched, fetches, of_book, refuses, Answer, Which::Walked, ROOM,
 };
@@ -66,8 +66,7 @@ fn every_set_of_causes_without_a_unit() {
 
 #[test]
 fn each_cause_and_each_two() {
-    let mut sets = sets(&of_unit());
-    sets.retain(|set| set.len() <= 2);
+    let sets = small_sets(&of_unit());
     assert_eq!(sets.len(), 1 + 14 + 14 * 13 / 2);
     first_is_given(SEED + 2, &sets, 30, case);
     let mut sets = sets_without_unit();

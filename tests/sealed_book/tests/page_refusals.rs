@@ -3,7 +3,7 @@
 
 mod common;
 
-use common::causes::{first_is_given, sets};
+use common::causes::{first_is_given, sets, small_sets};
 use common::paging::{page_gives, paged, Answer};
 use common::parts::{random_book, three_units, unit_fields, written, Parts};
 use common::refused::{first_of_each_set, random_case, Cause, CAUSES};
@@ -41,8 +41,7 @@ fn every_set_of_causes() {
 
 #[test]
 fn each_cause_and_each_two() {
-    let mut sets = sets(&CAUSES);
-    sets.retain(|set| set.len() <= 2);
+    let sets = small_sets(&CAUSES);
     first_is_given(SEED + 1, &sets, 10, case);
 }
 

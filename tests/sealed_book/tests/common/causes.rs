@@ -32,6 +32,13 @@ pub fn sets<C: Cause>(causes: &[C]) -> Vec<Vec<C>> {
     (0..1 << causes.len()).map(set).collect()
 }
 
+/// Those of no more than two.
+pub fn small_sets<C: Cause>(causes: &[C]) -> Vec<Vec<C>> {
+    let mut sets = sets(causes);
+    sets.retain(|set| set.len() <= 2);
+    sets
+}
+
 /// Makes so many cases of each set, with random bytes from the seed and under a name. A case returns
 /// the reference's answer, which must be the first cause of the set. Returns how often each refusal
 /// was given, and at 0 how often none.
