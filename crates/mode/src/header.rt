@@ -1,8 +1,8 @@
 // The header's sum. A function with a precondition serves our own crates, which have tested what it asks.
+use block_numbers::HeaderBlock;
 use suites::suite::Suite;
-use tweak::HeaderBlock;
 ghost use mathlib.Core.Path.{_≡_};
-ghost use Prim.Native.Nat.{_+_, _*_, _^_, _<_, _≤_};
+ghost use Prim.Native.Nat.{_+_, _*_, _^_, _≤_};
 ghost use lib.ListN.{length};
 ghost use Rattle.calls.specs.Calls.{sumOf};
 ghost use Rattle.calls.specs.Pieces.{headerSum};
@@ -25,7 +25,7 @@ fn chunk(
     requires { ⌜ Usable suite (now nonce)
         × (k ≤ 64)
         × (16 * k ≤ length (now header))
-        × (first .0 + k < 2 ^ 64) ⌝ }
+        × (first .0 + k ≤ 2 ^ 32) ⌝ }
     ensures { λ r. ⌜ r
         ≡ sumFrom sum k (λ i. enciphers suite key (headerTweak (now (nonce .entry)) (first .0 + i)) (block (now (header .entry)) i)) ⌝ }
 {
@@ -46,21 +46,15 @@ fn inner(suite: Suite, key: [u8; 16], nonce: &[u8], header: &[u8], n: usize) -> 
     ensures { λ r. ⌜ r ≡ sumOf n (λ i. enciphers suite key (headerTweak (now (nonce .entry)) i) (block (now (header .entry)) i)) ⌝ }
 {
     let mut sum = [0u8; 16];
-    let mut done: usize = 0;
-    while done < n {
-        let k = text_blocks::up_to_64(n - done);
-        let at = 16 * done;
-        let next = chunk(
-            suite,
-            key,
-            nonce,
-            HeaderBlock(done as u64),
-            k,
-            &header[at..],
-            sum,
-        );
-        sum = next;
-        done += k;
+    let end = 16 * n;
+    let mut next = HeaderBlock::start();
+    let mut at: usize = 0;
+    while at < end {
+        let k = text_blocks::up_to_64((end - at) / 16);
+        let more = chunk(suite, key, nonce, next, k, &header[at..], sum);
+        sum = more;
+        next = next.after(k);
+        at += 16 * k;
     }
     sum
 }

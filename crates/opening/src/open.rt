@@ -1,4 +1,5 @@
 // Opening.
+use block_numbers::TextBlock;
 use suites::refusal::Answer;
 use suites::refusal::Refusal;
 use suites::suite::Suite;
@@ -29,7 +30,8 @@ fn hand_out(suite: Suite, key: [u8; 16], nonce: &[u8], c: &[u8], work: &[u8], ou
     let n = sealing::counts::lesser(m, work.len());
     sums::copy(&work[..n], out);
     if n < m {
-        passes::window(suite, key, nonce, c, n / 16, &mut out[n..m]);
+        let next = TextBlock::start().after(n / 16);
+        passes::window(suite, key, nonce, c, next, &mut out[n..m]);
     }
 }
 

@@ -1,8 +1,8 @@
 // Passes over a ciphertext. Each public function serves our own crates, which have tested what it asks.
+use block_numbers::TextBlock;
 use suites::suite::Suite;
-use tweak::TextBlock;
 ghost use mathlib.Core.Path.{_≡_};
-ghost use Prim.Native.Nat.{_+_, _*_, _%_, _≤_};
+ghost use Prim.Native.Nat.{_+_, _%_, _≤_};
 ghost use lib.ListN.{length};
 ghost use Rattle.calls.specs.Sealing.{openingTag};
 ghost use Rattle.calls.specs.Tweak.{blocksOf};
@@ -11,16 +11,23 @@ ghost use Rattle.text_blocks.specs.Under.{enciphers, deciphers};
 ghost use Rattle.sealing.specs.Passes.{Passable, textPart, textIn, textSum};
 
 // The text of a part of the ciphertext c, as long as `work` and from block `first` on, in `work`.
-pub fn window(suite: Suite, key: [u8; 16], nonce: &[u8], c: &[u8], first: usize, work: &mut [u8])
+pub fn window(
+    suite: Suite,
+    key: [u8; 16],
+    nonce: &[u8],
+    c: &[u8],
+    first: TextBlock,
+    work: &mut [u8],
+)
     requires { ⌜ Passable suite (now nonce) (now c)
-        × Part (length (now c)) first (length (now work)) ⌝ }
-    ensures { λ r. ⌜ now (work .exit) ≡ textPart suite key (now (nonce .entry)) (now (c .entry)) first (length (now (work .entry))) ⌝ }
+        × Part (length (now c)) (first .0) (length (now work)) ⌝ }
+    ensures { λ r. ⌜ now (work .exit) ≡ textPart suite key (now (nonce .entry)) (now (c .entry)) (first .0) (length (now (work .entry))) ⌝ }
 {
     let m = c.len();
-    let at = 16 * first;
+    let at = first.place();
     let end = at + work.len();
     sums::copy(&c[at..end], work);
-    text_blocks::through(false, suite, key, nonce, m, TextBlock(first as u64), work);
+    text_blocks::through(false, suite, key, nonce, m, first, work);
 }
 
 // The same, with the blocks of that text added to the sum of those before them.
@@ -29,15 +36,15 @@ fn add_window(
     key: [u8; 16],
     nonce: &[u8],
     c: &[u8],
-    first: usize,
+    first: TextBlock,
     sum: [u8; 16],
     work: &mut [u8],
 ) -> [u8; 16]
     requires { ⌜ Passable suite (now nonce) (now c)
-        × Part (length (now c)) first (length (now work))
-        × (sum ≡ textSum suite key (now nonce) (now c) first) ⌝ }
-    ensures { λ r. ⌜ (r ≡ textSum suite key (now (nonce .entry)) (now (c .entry)) (first + blocksOf (length (now (work .entry)))))
-        × (now (work .exit) ≡ textPart suite key (now (nonce .entry)) (now (c .entry)) first (length (now (work .entry)))) ⌝ }
+        × Part (length (now c)) (first .0) (length (now work))
+        × (sum ≡ textSum suite key (now nonce) (now c) (first .0)) ⌝ }
+    ensures { λ r. ⌜ (r ≡ textSum suite key (now (nonce .entry)) (now (c .entry)) (first .0 + blocksOf (length (now (work .entry)))))
+        × (now (work .exit) ≡ textPart suite key (now (nonce .entry)) (now (c .entry)) (first .0) (length (now (work .entry)))) ⌝ }
 {
     window(suite, key, nonce, c, first, work);
     sums::add_all(sum, work)
@@ -49,15 +56,15 @@ fn add_some(
     key: [u8; 16],
     nonce: &[u8],
     c: &[u8],
-    first: usize,
+    first: TextBlock,
     n: usize,
     sum: [u8; 16],
 ) -> [u8; 16]
     requires { ⌜ Passable suite (now nonce) (now c)
-        × Part (length (now c)) first n
+        × Part (length (now c)) (first .0) n
         × (n ≤ 1024)
-        × (sum ≡ textSum suite key (now nonce) (now c) first) ⌝ }
-    ensures { λ r. ⌜ r ≡ textSum suite key (now (nonce .entry)) (now (c .entry)) (first + blocksOf n) ⌝ }
+        × (sum ≡ textSum suite key (now nonce) (now c) (first .0)) ⌝ }
+    ensures { λ r. ⌜ r ≡ textSum suite key (now (nonce .entry)) (now (c .entry)) (first .0 + blocksOf n) ⌝ }
 {
     let mut work = [0u8; 1024];
     add_window(suite, key, nonce, c, first, sum, &mut work[..n])
@@ -69,23 +76,24 @@ fn add_rest(
     key: [u8; 16],
     nonce: &[u8],
     c: &[u8],
-    first: usize,
+    first: TextBlock,
     sum: [u8; 16],
 ) -> [u8; 16]
     requires { ⌜ Passable suite (now nonce) (now c)
-        × (first ≤ blocksOf (length (now c)))
-        × (sum ≡ textSum suite key (now nonce) (now c) first) ⌝ }
+        × (first .0 ≤ blocksOf (length (now c)))
+        × (sum ≡ textSum suite key (now nonce) (now c) (first .0)) ⌝ }
     ensures { λ r. ⌜ r ≡ textSum suite key (now (nonce .entry)) (now (c .entry)) (blocksOf (length (now (c .entry)))) ⌝ }
 {
     let m = c.len();
-    let total = sealing::counts::blocks_of(m);
     let mut all = sum;
-    let mut done = first;
-    while done < total {
-        let n = sealing::counts::lesser(m - 16 * done, 1024);
-        let next = add_some(suite, key, nonce, c, done, n, all);
-        all = next;
-        done += sealing::counts::blocks_of(n);
+    let mut next = first;
+    let mut at = first.place();
+    while at < m {
+        let n = sealing::counts::lesser(m - at, 1024);
+        let more = add_some(suite, key, nonce, c, next, n, all);
+        all = more;
+        next = next.after(sealing::counts::blocks_of(n));
+        at = next.place();
     }
     all
 }
@@ -107,8 +115,10 @@ pub fn tag_of(
 {
     let m = c.len();
     let n = sealing::counts::lesser(m, work.len());
-    let first = add_window(suite, key, nonce, c, 0, [0u8; 16], &mut work[..n]);
-    let all = add_rest(suite, key, nonce, c, sealing::counts::blocks_of(n), first);
+    let start = TextBlock::start();
+    let first = add_window(suite, key, nonce, c, start, [0u8; 16], &mut work[..n]);
+    let next = start.after(sealing::counts::blocks_of(n));
+    let all = add_rest(suite, key, nonce, c, next, first);
     let sum = mode::header::sum(suite, key, nonce, header);
     mode::tag::make(suite, key, nonce, m, all, sum)
 }

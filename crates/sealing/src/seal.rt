@@ -1,8 +1,8 @@
 // Sealing.
+use block_numbers::TextBlock;
 use suites::refusal::Answer;
 use suites::refusal::Refusal;
 use suites::suite::Suite;
-use tweak::TextBlock;
 ghost use mathlib.Core.Path.{_≡_};
 ghost use mathlib.Core.List.{_++_};
 ghost use Prim.Native.Nat.{_+_, _^_, _≤_};
@@ -26,7 +26,8 @@ fn seal_there(suite: Suite, key: [u8; 16], nonce: &[u8], header: &[u8], m: usize
         ++ drop (m + 16) (now (out .entry)) ⌝ }
 {
     let checksum = sums::add_all([0u8; 16], &out[..m]);
-    text_blocks::through(true, suite, key, nonce, m, TextBlock(0), &mut out[..m]);
+    let start = TextBlock::start();
+    text_blocks::through(true, suite, key, nonce, m, start, &mut out[..m]);
     let sum = mode::header::sum(suite, key, nonce, header);
     let tag = mode::tag::make(suite, key, nonce, m, checksum, sum);
     blockwise::put_at(out, m, tag);

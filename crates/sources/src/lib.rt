@@ -1,4 +1,5 @@
 // The source of a unit that was checked, deciphered without its seal; for our own crates, which have checked the book and lend the room.
+use block_numbers::TextBlock;
 use kinds::Kind;
 use parser::frame::Frame;
 use suites::suite::Suite;
@@ -24,11 +25,12 @@ fn text_start(suite: Suite, key: [u8; 16], nonce: &[u8], c: &[u8], work: &mut [u
 {
     let m = c.len();
     let first = sealing::counts::lesser(m, 16);
-    passes::window(suite, key, nonce, c, 0, &mut work[..first]);
+    let start = TextBlock::start();
+    passes::window(suite, key, nonce, c, start, &mut work[..first]);
     let len = fields::field::pair(work[0], work[1]);
     let end = sealing::counts::lesser(m, 16 * ((len + 17) / 16));
     if 16 < end {
-        passes::window(suite, key, nonce, c, 1, &mut work[16..end]);
+        passes::window(suite, key, nonce, c, start.after(1), &mut work[16..end]);
     }
     len
 }

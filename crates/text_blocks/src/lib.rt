@@ -1,6 +1,6 @@
 // Text blocks. A function with a precondition serves our own crates, which have tested what it asks.
+use block_numbers::TextBlock;
 use suites::suite::Suite;
-use tweak::TextBlock;
 ghost use mathlib.Core.Bool.{true, cond};
 ghost use mathlib.Core.Path.{_≡_};
 ghost use Prim.Native.Nat.{_+_, _*_, _/_, _^_, _<_, _≤_, min};
@@ -58,7 +58,7 @@ fn chunk(
     requires { ⌜ Usable suite (now nonce)
         × (k ≤ 64)
         × (16 * k ≤ length (now s))
-        × (first .0 + k < 2 ^ 64) ⌝ }
+        × (first .0 + k ≤ 2 ^ 32) ⌝ }
     ensures { λ r. ⌜ now (s .exit) ≡ firstBlocks ahead suite key (now (nonce .entry)) (first .0) k (now (s .entry)) ⌝ }
 {
     let mut tweaks = [0u8; 1024];
@@ -74,26 +74,18 @@ fn chunk(
 // The whole blocks of s likewise.
 fn blocks(ahead: bool, suite: Suite, key: [u8; 16], nonce: &[u8], first: TextBlock, s: &mut [u8])
     requires { ⌜ Usable suite (now nonce)
-        × (first .0 + length (now s) < 2 ^ 63) ⌝ }
+        × (first .0 + length (now s) < 2 ^ 32) ⌝ }
     ensures { λ r. ⌜ now (s .exit)
         ≡ firstBlocks ahead suite key (now (nonce .entry)) (first .0) (length (now (s .entry)) / 16) (now (s .entry)) ⌝ }
 {
-    let number = first.0;
-    let n = s.len() / 16;
-    let mut done: usize = 0;
-    while done < n {
-        let k = up_to_64(n - done);
-        let at = 16 * done;
-        chunk(
-            ahead,
-            suite,
-            key,
-            nonce,
-            TextBlock(number + (done as u64)),
-            k,
-            &mut s[at..],
-        );
-        done += k;
+    let end = 16 * (s.len() / 16);
+    let mut next = first;
+    let mut at: usize = 0;
+    while at < end {
+        let k = up_to_64((end - at) / 16);
+        chunk(ahead, suite, key, nonce, next, k, &mut s[at..]);
+        next = next.after(k);
+        at += 16 * k;
     }
 }
 
@@ -124,9 +116,8 @@ pub fn through(
     ensures { λ r. ⌜ now (s .exit)
         ≡ through (either ahead suite key) (enciphers suite key) (now (nonce .entry)) m (first .0) (now (s .entry)) ⌝ }
 {
-    let number = first.0;
     let n = s.len();
-    let end = 16 * (number as usize) + n;
+    let end = first.place() + n;
     if end < m {
         blocks(ahead, suite, key, nonce, first, s);
         return;

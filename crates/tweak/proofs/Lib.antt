@@ -1,2 +1,4 @@
 pub mod Fills
 pub mod Limits
+pub mod Law
+pub mod Examples

@@ -1,18 +1,14 @@
-// Block numbers, and the tweaks of a sealing's cipher calls. Each public function serves the crates above, which have tested the
-// nonce's length and the limits.
+// The tweaks of a sealing's cipher calls. specs/TweakLaw says that within the limits each is the scope's, byte for byte. Each public function
+// serves the crates above, which have tested the nonce's length and the limits.
+use block_numbers::HeaderBlock;
+use block_numbers::TextBlock;
 ghost use mathlib.Core.Path.{_≡_};
 ghost use mathlib.Core.List.{_++_};
-ghost use Prim.Native.Nat.{_+_, _-_, _*_, _%_, _^_, _<_, _≤_};
+ghost use Prim.Native.Nat.{_+_, _-_, _*_, _%_, _^_, _≤_};
 ghost use lib.ListN.{length, take, drop, replicate};
 ghost use Rattle.bits.specs.Bytes.{bigEndian};
-ghost use Rattle.blockwise.specs.Blocks.{strung};
 ghost use Rattle.calls.specs.Tweak.{tweak, textTweak, headerTweak, specialTweak};
-
-// The number of a text block, from 0.
-pub struct TextBlock(pub u64);
-
-// The number of a header block, from 0: a count of its own.
-pub struct HeaderBlock(pub u64);
+ghost use Rattle.tweak.specs.Made.{Makeable, madeIn};
 
 // The nonce, then zeros.
 fn based(nonce: &[u8]) -> [u8; 16]
@@ -30,7 +26,7 @@ fn based(nonce: &[u8]) -> [u8; 16]
 }
 
 // A number in all bytes from n on of the block at a place.
-fn put_number(d: &mut [u8], at: usize, n: usize, number: u64)
+fn put_number(d: &mut [u8], at: usize, n: usize, number: u32)
     requires { ⌜ (n ≤ 15)
         × (at + 16 ≤ length (now d)) ⌝ }
     ensures { λ r. ⌜ now (d .exit) ≡ take (at + n) (now (d .entry))
@@ -53,7 +49,7 @@ fn sum(a: u8, b: u8) -> u8
 
 // A block put at a place: the base, a number in all bytes from n on, and a mark added in the first of these. It is made in place: a
 // processor waits where a block is made byte by byte and then read whole.
-fn put_marked(d: &mut [u8], at: usize, base: [u8; 16], n: usize, mark: u8, number: u64)
+fn put_marked(d: &mut [u8], at: usize, base: [u8; 16], n: usize, mark: u8, number: u32)
     requires { ⌜ (n ≤ 15)
         × (at + 16 ≤ length (now d)) ⌝ }
     ensures { λ r. ⌜ now (d .exit) ≡ take at (now (d .entry))
@@ -67,44 +63,33 @@ fn put_marked(d: &mut [u8], at: usize, base: [u8; 16], n: usize, mark: u8, numbe
 }
 
 // The tweaks of k numbers from `first` on, one behind the other.
-fn fill(nonce: &[u8], mark: u8, first: u64, k: usize, tweaks: &mut [u8])
-    requires { ⌜ (length (now nonce) ≤ 15)
-        × (16 * k ≤ length (now tweaks))
-        × (first + k < 2 ^ 64) ⌝ }
-    ensures { λ r. ⌜ now (tweaks .exit) ≡ strung k (λ i. tweak (now (nonce .entry)) mark (first + i))
-        ++ drop (16 * k) (now (tweaks .entry)) ⌝ }
+fn fill(nonce: &[u8], mark: u8, first: u32, k: usize, tweaks: &mut [u8])
+    requires { ⌜ Makeable (now nonce) first k (now tweaks) ⌝ }
+    ensures { λ r. ⌜ now (tweaks .exit) ≡ madeIn (tweak (now (nonce .entry)) mark) first k (now (tweaks .entry)) ⌝ }
 {
     let base = based(nonce);
     let n = nonce.len();
     let mut i: usize = 0;
     while i < k {
-        put_marked(tweaks, 16 * i, base, n, mark, first + (i as u64));
+        put_marked(tweaks, 16 * i, base, n, mark, first + (i as u32));
         i += 1;
     }
 }
 
 // The tweaks of k text blocks that are not last, from `first` on, one behind the other.
 pub fn text_tweaks(nonce: &[u8], first: TextBlock, k: usize, tweaks: &mut [u8])
-    requires { ⌜ (length (now nonce) ≤ 15)
-        × (16 * k ≤ length (now tweaks))
-        × (first .0 + k < 2 ^ 64) ⌝ }
-    ensures { λ r. ⌜ now (tweaks .exit) ≡ strung k (λ i. textTweak (now (nonce .entry)) (first .0 + i))
-        ++ drop (16 * k) (now (tweaks .entry)) ⌝ }
+    requires { ⌜ Makeable (now nonce) (first .0) k (now tweaks) ⌝ }
+    ensures { λ r. ⌜ now (tweaks .exit) ≡ madeIn (textTweak (now (nonce .entry))) (first .0) k (now (tweaks .entry)) ⌝ }
 {
-    let number = first.0;
-    fill(nonce, 0x00, number, k, tweaks);
+    fill(nonce, 0x00, first.number(), k, tweaks);
 }
 
 // The tweaks of k header blocks that are not last, from `first` on, one behind the other.
 pub fn header_tweaks(nonce: &[u8], first: HeaderBlock, k: usize, tweaks: &mut [u8])
-    requires { ⌜ (length (now nonce) ≤ 15)
-        × (16 * k ≤ length (now tweaks))
-        × (first .0 + k < 2 ^ 64) ⌝ }
-    ensures { λ r. ⌜ now (tweaks .exit) ≡ strung k (λ i. headerTweak (now (nonce .entry)) (first .0 + i))
-        ++ drop (16 * k) (now (tweaks .entry)) ⌝ }
+    requires { ⌜ Makeable (now nonce) (first .0) k (now tweaks) ⌝ }
+    ensures { λ r. ⌜ now (tweaks .exit) ≡ madeIn (headerTweak (now (nonce .entry))) (first .0) k (now (tweaks .entry)) ⌝ }
 {
-    let number = first.0;
-    fill(nonce, 0x80, number, k, tweaks);
+    fill(nonce, 0x80, first.number(), k, tweaks);
 }
 
 // A special tweak: the nonce, one byte, then zeros.

@@ -347,6 +347,30 @@ mod tests {
         assert_eq!(tweak(TagAfterPartial), [0xE8, 0, 0, 0]);
     }
 
+    /// "no block index passes 1,048,575": the last numbers within the limits.
+    #[test]
+    fn last_numbers_within_the_limits() {
+        for (n, place, tail) in [
+            (13, Text(1_048_575), &[0x0F, 0xFF, 0xFF][..]),
+            (13, Header(1_048_575), &[0x8F, 0xFF, 0xFF]),
+            (14, Text(32_767), &[0x7F, 0xFF]),
+            (14, Header(16_383), &[0xBF, 0xFF]),
+            (15, Text(127), &[0x7F]),
+            (15, Header(63), &[0xBF]),
+        ] {
+            assert_eq!(tweak(&vec![0xA5; n], place)[n..], *tail, "{place:?}");
+            let last = match place {
+                Text(number) => number == text_limit(n) / 16 - 1,
+                Header(number) => number == header_limit(n) / 16 - 1,
+                _ => false,
+            };
+            assert!(last, "{place:?}");
+        }
+        for n in 1..=15 {
+            assert!(header_limit(n).max(text_limit(n)) / 16 <= 1_048_576);
+        }
+    }
+
     /// Known value 7, and the count of a list beside its length.
     #[test]
     fn known_call_counts() {

@@ -6,7 +6,6 @@ use common::sealing::Given;
 use common::swapped;
 use reference::cipher::SUITES;
 use reference::random::Random;
-use sealed_book::raw;
 
 const SEED: u64 = 0x4441_4D47;
 
@@ -185,19 +184,7 @@ fn far_blocks_swapped() {
     let mut random = Random::new(SEED + 5);
     let len = 16 * 65_540;
     let given = Given::random(&mut random, (1, 6), 12, len, len);
-    let (cipher, steps) = given.suite;
-    let mut body = vec![0; len + 16];
-    let answer = raw::seal(
-        cipher,
-        steps,
-        &given.key,
-        &given.nonce,
-        &given.header,
-        &given.body,
-        &mut body,
-    );
-    assert!(answer.is_ok());
-    let sealed = given.with_body(body);
+    let sealed = given.with_body(given.sealed());
     sealed.open_gives(len, &Ok(given.body), "as it was sealed");
     for (one, other) in [(0, 65_536), (1, 65_537), (256, 65_536)] {
         let name = format!("blocks {one} and {other} swapped");

@@ -5,8 +5,6 @@ mod common;
 use common::sealing::Given;
 use reference::cipher::SUITES;
 use reference::random::Random;
-use reference::sealing::{assembled, calls};
-use sealed_book::raw;
 
 const SEED: u64 = 0x4C49_4D54;
 
@@ -62,19 +60,10 @@ fn longest_header_and_text() {
     let mut random = Random::new(SEED + 3);
     for (n, a, m) in [(13, 25, MOST), (1, MOST, 25)] {
         let given = Given::random(&mut random, (1, 6), n, a, m);
-        let calls = calls(&given.nonce, &given.header, &given.body);
-        let tweaks: Vec<u8> = calls.iter().flat_map(|call| call.tweak).collect();
-        let mut blocks: Vec<u8> = calls.iter().flat_map(|call| call.block).collect();
-        let key = given.key[..].try_into().unwrap();
-        raw::encipher_blocks(1, 6, key, &tweaks, &mut blocks).unwrap();
-        let enciphered: Vec<[u8; 16]> = blocks
-            .chunks_exact(16)
-            .map(|block| block.try_into().unwrap())
-            .collect();
-        assert_eq!(enciphered.len(), MOST / 16 + 2 + 1);
-        let sealed = assembled(&calls, &enciphered, &given.body);
+        let (sealed, calls) = given.sealed_by_calls();
+        assert_eq!(calls, MOST / 16 + 2 + 1);
 
-        given.seal_gives(m + 16, &Ok((sealed.clone(), calls.len())), "at the limit");
+        given.seal_gives(m + 16, &Ok((sealed.clone(), calls)), "at the limit");
         given.seal_gives(m + 15, &Err(7), "at the limit");
         let mut damaged = given.with_body(sealed);
         damaged.open_gives(m, &Ok(given.body), "at the limit");

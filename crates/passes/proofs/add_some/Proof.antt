@@ -18,7 +18,7 @@ returns c =
     let p = c .before .before .before .before .before in
     let a = p .args in
     c .before .add-window .ensures .0
-    ∙ ap (λ n. textSum (a .suite) (a .key) (a .nonce .now) (a .c .now) (a .first + blocksOf n)) (zeros-front (a .n) 1024 (p .pre .2))
+    ∙ ap (λ n. textSum (a .suite) (a .key) (a .nonce .now) (a .c .now) (a .first .0 + blocksOf n)) (zeros-front (a .n) 1024 (p .pre .2))
 
 pub add-some-spec : {M : Type 1} → statement M
 add-some-spec =

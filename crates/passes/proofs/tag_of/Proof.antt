@@ -22,30 +22,31 @@ front c = length-take-le (c .lesser .result) (c .before .before .before .before 
 
 add-window-requires : tie.Need-add-window-requires
 add-window-requires c κs =
-    let h = c .before in
+    let z = c .before in
+    let h = z .before in
     let p = h .before .before .before .before .before in
     let a = p .args in
     let m = length (a .c .now) in
     let w = length (a .work .now) in
     let n : length (take (h .lesser .result) (a .work .now)) ≡ min (m - 16 * 0) w = front h ∙ h .lesser .ensures ∙ omega arith in (
       p .pre .1,
-      rw n (part-of-rest m 0 w (omega arith) (p .pre .1 .small) (p .pre .2)),
-      sum-none (a .suite) (a .key) (a .nonce .now) (a .c .now),
+      rw (n, z .start .ensures) (part-of-rest m 0 w (omega arith) (p .pre .1 .small) (p .pre .2)),
+      rw (z .start .ensures) (sum-none (a .suite) (a .key) (a .nonce .now) (a .c .now)),
     )
 
 add-rest-requires : tie.Need-add-rest-requires
 add-rest-requires c κs =
-    let w = c .before .before .before in
-    let h = w .before .before in
+    let w = c .before .before .before .before in
+    let h = w .before .before .before in
     let p = h .before .before .before .before .before in
     let a = p .args in
-    let k : 0 + blocksOf (length (take (h .lesser .result) (a .work .now))) ≡ c .blocks-of .result = omega (arith, front h) in
+    let k : w .before .before .start .result .0 + blocksOf (length (take (h .lesser .result) (a .work .now))) ≡ c .after .result .0 = omega (arith, front h) in
     (p .pre .1, omega arith, w .add-window .ensures .0 ∙ ap (textSum (a .suite) (a .key) (a .nonce .now) (a .c .now)) k)
 
 returns : tie.Need-returns
 returns c =
-    let w = c .before .before .before .before .before .before in
-    let h = w .before .before in
+    let w = c .before .before .before .before .before .before .before in
+    let h = w .before .before .before in
     let p = h .before .before .before .before .before in
     let a = p .args in
     let m = length (a .c .now) in
@@ -54,7 +55,7 @@ returns c =
     let short = p .pre .1 .usable .short in
     let all = c .before .before .add-rest .ensures ∙ sum-all (a .suite) (a .key) (a .nonce .now) (a .c .now) short (p .pre .1 .small) in
     let n = front h ∙ h .lesser .ensures in
-    let first = w .add-window .ensures .1 ∙ ap (textPart (a .suite) (a .key) (a .nonce .now) (a .c .now) 0) n in (
+    let first = w .add-window .ensures .1 ∙ (λ i. textPart (a .suite) (a .key) (a .nonce .now) (a .c .now) (w .before .before .start .ensures i) (n i)) in (
       c .make .ensures
           ∙ (λ i. tagFrom e (a .nonce .now) m (all i) (c .before .sum .ensures i))
           ∙ sym
@@ -68,10 +69,12 @@ tag-of-spec =
     tie.close
     (tie.spec
     (λ c κs. search needs)
+    (λ c κs. search needs)
     (λ c. search needs)
-    (λ c. sym (front (c .before)))
+    (λ c. sym (front (c .before .before)))
     add-window-requires
     (λ c κs. search needs)
+    (λ c κs. omega arith)
     add-rest-requires
     (λ c κs. search needs)
     (λ c κs. search needs)

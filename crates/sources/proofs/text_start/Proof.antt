@@ -37,47 +37,47 @@ first-long : (c : tie.After-lesser) → length (take (c .lesser .result) (c .bef
 first-long c = length-take-le (c .lesser .result) (c .before .before .before .before .args .work .now) (omega arith)
 
 slice-aggregate-window : tie.Need-slice-aggregate-window
-slice-aggregate-window c = sym (first-long (c .before))
+slice-aggregate-window c = sym (first-long (c .before .before))
 
 window-requires : tie.Need-window-requires
 window-requires c κs =
-    let h = c .before in
+    let h = c .before .before in
     let p = h .before .before .before .before in
     let m = length (p .args .c .now) in
     let n = h .lesser .result in
-    (p .pre .0, rw (first-long h) (start-part m n (p .pre .0 .small) (h .lesser .ensures)))
+    (p .pre .0, rw (first-long h, c .before .start .ensures) (start-part m n (p .pre .0 .small) (h .lesser .ensures)))
 
 -- what the first window leaves
 module _ (c : tie.After-window) where
   abbrev T : List ℕ
-  T = let a = c .before .before .before .before .before .before .args in textOf (a .suite) (a .key) (a .nonce .now) (a .c .now)
+  T = let a = c .before .before .before .before .before .before .before .args in textOf (a .suite) (a .key) (a .nonce .now) (a .c .now)
 
-  T-long : length T ≡ length (c .before .before .before .before .before .before .args .c .now)
+  T-long : length T ≡ length (c .before .before .before .before .before .before .before .args .c .now)
   T-long =
-      let p = c .before .before .before .before .before .before in
+      let p = c .before .before .before .before .before .before .before in
       let a = p .args in
       text-long (a .suite) (a .key) (a .nonce .now) (p .pre .0 .usable .short) (a .c .now) (p .pre .0 .small)
 
-  windowed : c .window .last .1 .1 .1 .1 .1 .0 ≡ take (c .before .before .lesser .result) T
+  windowed : c .window .last .1 .1 .1 .1 .1 .0 ≡ take (c .before .before .before .lesser .result) T
   windowed =
-      let h = c .before .before in
+      let h = c .before .before .before in
       let p = h .before .before .before .before in
       let a = p .args in
       let n = h .lesser .result in
       c .window .ensures
-      ∙ ap (textPart (a .suite) (a .key) (a .nonce .now) (a .c .now) 0) (first-long h)
+      ∙ (λ i. textPart (a .suite) (a .key) (a .nonce .now) (a .c .now) (c .before .before .start .ensures i) (first-long h i))
       ∙ text-front (a .suite) (a .key) (a .nonce .now) (p .pre .0 .usable .short) (a .c .now) (p .pre .0 .small) n
       (start-part (length (a .c .now)) n (p .pre .0 .small) (h .lesser .ensures))
 
   abbrev held : List ℕ
-  held = c .window .last .1 .1 .1 .1 .1 .0 ++ drop (c .before .before .lesser .result) (c .before .before .before .before .before .before .args .work .now)
+  held = c .window .last .1 .1 .1 .1 .1 .0 ++ drop (c .before .before .before .lesser .result) (c .before .before .before .before .before .before .before .args .work .now)
 
-  held-is : held ≡ take (c .before .before .lesser .result) T ++ drop (c .before .before .lesser .result) (c .before .before .before .before .before .before .args .work .now)
-  held-is = ap (λ (l : List ℕ). l ++ drop (c .before .before .lesser .result) (c .before .before .before .before .before .before .args .work .now)) windowed
+  held-is : held ≡ take (c .before .before .before .lesser .result) T ++ drop (c .before .before .before .lesser .result) (c .before .before .before .before .before .before .before .args .work .now)
+  held-is = ap (λ (l : List ℕ). l ++ drop (c .before .before .before .lesser .result) (c .before .before .before .before .before .before .before .args .work .now)) windowed
 
-  held-long : length held ≡ length (c .before .before .before .before .before .before .args .work .now)
+  held-long : length held ≡ length (c .before .before .before .before .before .before .before .args .work .now)
   held-long =
-      let h = c .before .before in
+      let h = c .before .before .before in
       let a = h .before .before .before .before .args in
       let n = h .lesser .result in
       ap length held-is
@@ -88,7 +88,7 @@ module _ (c : tie.After-window) where
 said : (c : tie.After-pair) → c .pair .result ≡ sourceLength (T (c .before .before .before .before .before))
 said c =
     let w = c .before .before .before .before .before in
-    let h = w .before .before in
+    let h = w .before .before .before in
     let p = h .before .before .before .before in
     let n = h .lesser .result in
     c .pair .ensures
@@ -102,7 +102,7 @@ mul-lesser : tie.Need-mul-lesser
 mul-lesser c = let e = said c in search needs
 
 -- how far it is deciphered: the whole source is within
-ends : (c : tie.After-lesser2) → let m = length (c .before .before .before .before .before .before .before .before .before .before .before .before .args .c .now) in
+ends : (c : tie.After-lesser2) → let m = length (c .before .before .before .before .before .before .before .before .before .before .before .before .before .args .c .now) in
     (c .lesser2 .result ≡ min m (16 * ((c .before .pair .result + 17) / 16))) × (c .lesser2 .result ≤ 4112) × (2 + c .before .pair .result ≤ m)
 ends c =
     let e = said (c .before) in
@@ -110,7 +110,7 @@ ends c =
 
 part-window-end : tie.Need-part-window-end
 part-window-end c =
-    let l = c .before in
+    let l = c .before .before in
     let w = l .before .before .before .before .before .before in
     omega (arith, ends l, held-long w)
 
@@ -122,27 +122,31 @@ second-long c =
     let w = l .before .before .before .before .before .before in
     length-take-le (l .lesser2 .result - 16) (drop 16 (held w)) (rw length-drop (omega (arith, ends l, held-long w)))
 
-behind : (c : tie.Then1) → Part (length (c .before .before .before .before .before .before .before .before .before .before .before .before .before .args .c .now)) 1
+behind : (c : tie.Then1) → Part (length (c .before .before .before .before .before .before .before .before .before .before .before .before .before .before .args .c .now)) 1
     (c .before .lesser2 .result - 16)
 behind c =
     let l = c .before in
-    let p = l .before .before .before .before .before .before .before .before .before .before .before .before in
+    let p = l .before .before .before .before .before .before .before .before .before .before .before .before .before in
     rest-part (length (p .args .c .now)) (l .lesser2 .result - 16) (l .lesser2 .result) ((l .before .pair .result + 17) / 16) (p .pre .0 .small) (ends l .0)
     (c .if1 .taken) refl
 
+-- it begins at block 1
+second-number : (c : tie.After-after) → c .after .result .0 ≡ 1
+second-number c = omega arith
+
 window-requires-2 : tie.Need-window-requires-2
 window-requires-2 c κs =
-    let t = c .before in
-    let p = t .before .before .before .before .before .before .before .before .before .before .before .before .before in
-    (p .pre .0, rw (second-long t) (behind t))
+    let t = c .before .before in
+    let p = t .before .before .before .before .before .before .before .before .before .before .before .before .before .before in
+    (p .pre .0, rw (second-long t, second-number (c .before)) (behind t))
 
 returns : tie.Need-returns
 returns c =
     let v = c .before .before in
-    let t = v .before .before in
+    let t = v .before .before .before in
     let l = t .before in
     let w = l .before .before .before .before .before .before in
-    let h = w .before .before in
+    let h = w .before .before .before in
     let p = h .before .before .before .before in
     let a = p .args in
     let m = length (a .c .now) in
@@ -153,7 +157,7 @@ returns c =
     let full : n ≡ 16 = omega (arith, ends l) in
     let second : v .window2 .last .1 .1 .1 .1 .1 .0 ≡ take (e - 16) (drop 16 (T w)) =
     v .window2 .ensures
-    ∙ ap (textPart (a .suite) (a .key) (a .nonce .now) (a .c .now) 1) (second-long t)
+    ∙ (λ i. textPart (a .suite) (a .key) (a .nonce .now) (a .c .now) (second-number (v .before .before) i) (second-long t i))
     ∙ text-part (a .suite) (a .key) (a .nonce .now) (p .pre .0 .usable .short) (a .c .now) (p .pre .0 .small) 1 (e - 16) (behind t) in
     let first : take 16 x ≡ take 16 (T w) =
     ap (take 16) (held-is w) ∙ front-enough (T w) (drop n (a .work .now)) n 16 (omega arith) (omega (arith, T-long w)) in
@@ -169,7 +173,7 @@ returns-2 : tie.Need-returns-2
 returns-2 c =
     let l = c .before in
     let w = l .before .before .before .before .before .before in
-    let h = w .before .before in
+    let h = w .before .before .before in
     let a = h .before .before .before .before .args in
     let n = h .lesser .result in
     let r = l .before .pair .result in
@@ -184,6 +188,7 @@ text-start-spec =
     tie.close
     (tie.spec
     (λ c κs. search needs)
+    (λ c κs. search needs)
     (λ c. search needs)
     slice-aggregate-window
     window-requires
@@ -192,6 +197,7 @@ text-start-spec =
     (λ c κs. search needs)
     add-lesser
     mul-lesser
+    (λ c κs. search needs)
     (λ c κs. search needs)
     (λ c. search needs)
     (λ c. search needs)

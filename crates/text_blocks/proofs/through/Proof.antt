@@ -21,19 +21,19 @@ use Rattle.text_blocks.proofs.through.Statement.{statement}
 use Rattle.text_blocks.proofs.through.Tie as tie
 
 -- the whole blocks before the last
-front : (c : tie.Else2) → let s = c .before .before .before .before .args .s .now in let at = 16 * ((length s - 1) / 16) in at ≡ length (take at s)
+front : (c : tie.Else2) → let s = c .before .before .before .before .before .args .s .now in let at = 16 * ((length s - 1) / 16) in at ≡ length (take at s)
 front c =
-    let s = c .before .before .before .before .args .s .now in
+    let s = c .before .before .before .before .before .args .s .now in
     sym (length-take-le (16 * ((length s - 1) / 16)) s (omega arith))
 
 blocks-requires-2 : tie.Need-blocks-requires-2
 blocks-requires-2 c κs =
-    let p = c .before .before .before .before .before in
+    let p = c .before .before .before .before .before .before in
     (p .pre .0, omega (arith, front (c .before)))
 
 returns : tie.Need-returns
 returns c =
-    let p = c .before .before .before .before .before .before .before in
+    let p = c .before .before .before .before .before .before .before .before in
     let a = p .args in
     let n = length (a .s .now) in
     let whole : n % 16 ≡ 0 = before-whole (a .m) (16 * a .first .0 + n) n (p .pre .1 .whole) (omega arith) in
@@ -43,13 +43,13 @@ returns c =
 
 returns-2 : tie.Need-returns-2
 returns-2 c =
-    let a = c .before .before .before .before .args in
+    let a = c .before .before .before .before .before .args in
     through-none (either (a .ahead) (a .suite) (a .key)) (enciphers (a .suite) (a .key)) (a .nonce .now) (a .m) (a .first .0) (a .s .now) (c .if2 .taken)
 
 returns-3 : tie.Need-returns-3
 returns-3 c =
     let h = c .before .before .before .before .before .before .before in
-    let p = h .before .before .before .before .before .before in
+    let p = h .before .before .before .before .before .before .before in
     let a = p .args in
     let s = a .s .now in
     let n = length s in
@@ -79,7 +79,7 @@ pub through-spec : {M : Type 1} → statement M
 through-spec =
     tie.close
     (tie.spec
-    (λ c. search needs)
+    (λ c κs. search needs)
     (λ c. search needs)
     (λ c κs. search needs)
     (λ c. search needs)

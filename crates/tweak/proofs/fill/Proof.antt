@@ -67,6 +67,7 @@ fill-spec =
     loop-holds
     (λ c. omega arith)
     (λ c. omega arith)
+    (λ c. omega arith)
     (λ c κs. (omega arith, omega (arith, kept (c .before .before))))
     (λ c. omega arith)
     (λ c. omega arith)

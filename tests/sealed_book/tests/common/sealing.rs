@@ -62,6 +62,39 @@ impl Given {
         sealing::seal(cipher, steps, key, nonce, &self.header, &self.body, out_len)
     }
 
+    /// The bytes that the library seals, without a comparison.
+    pub fn sealed(&self) -> Vec<u8> {
+        let ((cipher, steps), key, nonce) = (self.suite, &self.key, &self.nonce);
+        let mut out = vec![0; self.body.len() + 16];
+        raw::seal(
+            cipher,
+            steps,
+            key,
+            nonce,
+            &self.header,
+            &self.body,
+            &mut out,
+        )
+        .unwrap();
+        out
+    }
+
+    /// The sealed bytes and the calls by the reference's call list, which the library's own blocks
+    /// encipher: for texts on which the reference's cipher is slow.
+    pub fn sealed_by_calls(&self) -> (Vec<u8>, usize) {
+        let calls = sealing::calls(&self.nonce, &self.header, &self.body);
+        let tweaks: Vec<u8> = calls.iter().flat_map(|call| call.tweak).collect();
+        let mut blocks: Vec<u8> = calls.iter().flat_map(|call| call.block).collect();
+        let key = self.key[..].try_into().unwrap();
+        raw::encipher_blocks(self.suite.0, self.suite.1, key, &tweaks, &mut blocks).unwrap();
+        let enciphered: Vec<[u8; 16]> = blocks
+            .chunks_exact(16)
+            .map(|block| block.try_into().unwrap())
+            .collect();
+        let sealed = sealing::assembled(&calls, &enciphered, &self.body);
+        (sealed, calls.len())
+    }
+
     /// What the reference answers to opening.
     pub fn open_answer(&self, out_len: usize) -> OpenAnswer {
         let ((cipher, steps), key, nonce) = (self.suite, &self.key, &self.nonce);

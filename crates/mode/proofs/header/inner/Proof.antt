@@ -1,48 +1,57 @@
--- The loop has added the first `done` blocks.
-use mathlib.Core.Path.{_≡_, refl, ap, _∙_}
-use Prim.Native.Nat.{_-_, _≤_}
+-- The loop has added the blocks before the next.
+use mathlib.Core.Path.{_≡_, sym, ap, _∙_}
+use mathlib.Core.List.{List}
+use Prim.Native.Nat.{ℕ, _+_, _-_, _*_, _≤_}
 use native.Mathlib.Omega.{arith}
 use borrow.Author.Needs.{needs}
-use lib.ListN.{length-drop}
+use lib.ListN.{length, take, drop, length-drop}
 use Rattle.calls.specs.Calls.{sumOf}
 use Rattle.calls.specs.Tweak.{headerTweak}
 use Rattle.blockwise.specs.Blocks.{block}
 use Rattle.text_blocks.specs.Under.{enciphers}
+use Rattle.sums.specs.Sums.{sumFrom}
 use Rattle.mode.proofs.Headers.{sum-chunk}
 use Rattle.bits.proofs.Lists.{part-rest}
 use Rattle.mode.proofs.header.inner.Statement.{statement}
 use Rattle.mode.proofs.header.inner.Tie as tie
 
 abbrev Inv-loop : tie.InvT-loop
-Inv-loop suite key nonce header n sum₀ done₀ sum done =
-    (done ≤ n) × (sum ≡ sumOf done (λ i. enciphers suite key (headerTweak nonce i) (block header i)))
+Inv-loop suite key nonce header n sum₀ end next₀ at₀ sum next at =
+    (at ≤ end) × (at ≡ 16 * next .0) × (sum ≡ sumOf (next .0) (λ i. enciphers suite key (headerTweak nonce i) (block header i)))
 
 abbrev μ-loop : tie.MeasureT-loop
-μ-loop suite key nonce header n sum₀ done₀ sum done = n - done
+μ-loop suite key nonce header n sum₀ end next₀ at₀ sum next at = end - at
 
 loop-holds : tie.Need-loop-holds Inv-loop μ-loop
 unfolding sumOf
-loop-holds c = (search needs, refl)
+loop-holds c =
+    let a = c .before .before .before .args in
+    (search needs, omega arith, ap (λ (m : ℕ). sumOf m (λ i. enciphers (a .suite) (a .key) (headerTweak (a .nonce .now) i) (block (a .header .now) i))) (sym (c .start .ensures)))
 
 chunk-requires : tie.Need-chunk-requires Inv-loop μ-loop
-chunk-requires c κs = (c .before .before .before .before .before .before .pre .0, search needs, rw (part-rest, length-drop) (omega arith), omega arith)
+chunk-requires c κs = (c .before .before .before .before .before .before .before .pre .0, search needs, rw (part-rest, length-drop) (omega arith), omega arith)
 
 loop-again : tie.Need-loop-again Inv-loop μ-loop
 loop-again c =
-    let h = c .before .before .before .before in
-    let a = h .before .before .before .args in
-    let k = c .before .before .up-to-64 .result in (
+    let h = c .before .before .before .before .before in
+    let a = h .before .before .before .before .args in
+    let e : ℕ → List ℕ → List ℕ = λ i. enciphers (a .suite) (a .key) (headerTweak (a .nonce .now) i) in
+    let n = h .loop .next .0 in
+    let k = c .before .before .before .up-to-64 .result in (
       omega arith,
-      c .chunk .ensures
-          ∙ sum-chunk (λ i. enciphers (a .suite) (a .key) (headerTweak (a .nonce .now) i)) (a .header .now) (h .loop .sum) (h .loop .done) k (h .loop .inv .1),
+      omega arith,
+      c .before .chunk .ensures
+          ∙ ap (λ (at : ℕ). sumFrom (h .loop .sum) k (λ i. e (n + i) (block (take (length (a .header .now) - at) (drop at (a .header .now))) i))) (h .loop .inv .1)
+          ∙ sum-chunk e (a .header .now) (h .loop .sum) n k (h .loop .inv .2)
+          ∙ ap (λ (m : ℕ). sumOf m (λ i. e i (block (a .header .now) i))) (sym (c .after .ensures)),
     )
 
 returns : tie.Need-returns Inv-loop μ-loop
 returns c =
     let h = c .before in
-    let a = h .before .before .before .args in
-    let e : h .loop .done ≡ a .n = omega arith in
-    h .loop .inv .1 ∙ ap (λ n. sumOf n (λ i. enciphers (a .suite) (a .key) (headerTweak (a .nonce .now) i) (block (a .header .now) i))) e
+    let a = h .before .before .before .before .args in
+    let e : h .loop .next .0 ≡ a .n = omega arith in
+    h .loop .inv .2 ∙ ap (λ n. sumOf n (λ i. enciphers (a .suite) (a .key) (headerTweak (a .nonce .now) i) (block (a .header .now) i))) e
 
 pub inner-spec : {M : Type 1} → statement M
 inner-spec =
@@ -50,14 +59,17 @@ inner-spec =
     (tie.spec
     Inv-loop
     μ-loop
+    (λ c. omega arith)
+    (λ c κs. search needs)
     loop-holds
     (λ c. omega arith)
     (λ c κs. search needs)
     (λ c. omega arith)
     (λ c. omega arith)
     (λ c. omega arith)
-    (λ c. omega arith)
     chunk-requires
+    (λ c κs. omega arith)
+    (λ c. omega arith)
     (λ c. omega arith)
     (λ c. omega arith)
     loop-again

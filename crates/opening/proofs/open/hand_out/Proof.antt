@@ -63,18 +63,22 @@ blocks c =
     let w : h .lesser .result ≡ length (p .args .work .now) = omega arith in
     omega (arith, p .pre .2)
 
+-- the block behind it
+next : (c : tie.After-after) → c .after .result .0 ≡ c .before .before .before .before .before .before .before .before .lesser .result / 16
+next c = omega arith
+
 window-requires : tie.Need-window-requires
 window-requires c κs =
-    let k = c .before .before .before .before in
+    let k = c .before .before .before .before .before .before in
     let p = k .before .before .before .before .before .before .before .before in
     let m = length (p .args .c .now) in
     let n = k .before .before .before .lesser .result in
-    let b = blocks (c .before) in
-    (p .pre .0, rw (left k) (record { small = p .pre .0 .small; within = omega arith; whole = inl (omega arith) }))
+    let b = blocks (c .before .before .before) in
+    (p .pre .0, rw (left k, next (c .before)) (record { small = p .pre .0 .small; within = omega arith; whole = inl (omega arith) }))
 
 returns : tie.Need-returns
 returns c =
-    let t = c .before .before .before .before in
+    let t = c .before .before .before .before .before .before in
     let k = t .before .before .before in
     let h = k .before .before .before in
     let a = h .before .before .before .before .before .args in
@@ -88,15 +92,18 @@ returns c =
     let at = 16 * (n / 16) in
     let part = textPart (a .suite) (a .key) (a .nonce .now) (a .c .now) 0 in
     let start : take n C ≡ part at = ap (take n) (copied k) ∙ take-at A (drop n (a .out .now)) n (front h) ∙ first h ∙ ap part (sym b) in
-    let rest : take (length (take (m - n) (drop n C))) (drop at (a .c .now)) ≡ drop at (a .c .now) =
-    ap (λ j. take j (drop at (a .c .now))) (left k ∙ ap (λ j. m - j) (sym b)) ∙ part-rest at (a .c .now) in
+    let number = next (c .before .before .before .before) in
+    let rest : take (length (take (m - n) (drop n C))) (drop (16 * c .before .before .before .before .after .result .0) (a .c .now)) ≡ drop at (a .c .now) =
+    ap (λ k. take (length (take (m - n) (drop n C))) (drop (16 * k) (a .c .now))) number
+    ∙ ap (λ j. take j (drop at (a .c .now))) (left k ∙ ap (λ j. m - j) (sym b))
+    ∙ part-rest at (a .c .now) in
     let all : n + (m - n) ≡ m = omega arith in
     let behind : drop (m - n) (drop n C) ≡ drop m (a .out .now) =
     ap (λ l. drop (m - n) (drop n l)) (copied k)
     ∙ ap (drop (m - n)) (drop-at A (drop n (a .out .now)) n (front h))
     ∙ drop-drop (m - n) n (a .out .now)
     ∙ ap (λ j. drop j (a .out .now)) all in
-    (λ i. start i ++ ((c .before .before .window .ensures ∙ ap (through f e (a .nonce .now) m (n / 16)) rest) i ++ behind i))
+    (λ i. start i ++ ((c .before .before .window .ensures ∙ (λ j. through f e (a .nonce .now) m (number j) (rest j))) i ++ behind i))
     ∙ sym (append-assoc (part at) (through f e (a .nonce .now) m (n / 16) (drop at (a .c .now))) (drop m (a .out .now)))
     ∙ ap (λ l. l ++ drop m (a .out .now)) (sym (through-split f e (a .nonce .now) m (a .c .now) (n / 16) (omega arith)))
 
@@ -118,6 +125,8 @@ hand-out-spec =
     (λ c κs. search needs)
     (λ c. sym (front (c .before)))
     (λ c κs. omega (arith, front (c .before .before)))
+    (λ c κs. search needs)
+    (λ c κs. search needs)
     (λ c. search needs)
     (λ c. search needs)
     (λ c. search needs)

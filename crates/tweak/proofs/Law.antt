@@ -1,0 +1,70 @@
+-- The law of the tweaks within the limits.
+use mathlib.Core.Path.{_≡_, ap, _∙_}
+use mathlib.Core.List.{List, [], _∷_, _++_}
+use Prim.Native.Nat.{ℕ, _+_, _-_, _*_, _^_, _≤_, _<_}
+use native.Mathlib.Nat.{le-of-eq}
+use native.Mathlib.Omega.{arith}
+use lib.ListN.{length, drop}
+use Rattle.blockwise.specs.Blocks.{block, strung}
+use Rattle.blockwise.proofs.Each.{block-append, block-of-strung, strung-whole}
+use Rattle.calls.specs.Tweak.{tweak, blocksOf}
+use Rattle.calls.specs.TweakBits.{highFirst, bitsOf}
+use Rattle.calls.proofs.TweakBits.{tweak-first, special-bytes}
+use Rattle.calls.proofs.Tweaks.{length-tweak}
+use Rattle.limits.specs.Limits.{headerLimit, textLimit}
+use Rattle.limits.proofs.Passed.{header-limit-most, text-limit-most}
+use Rattle.tweak.specs.Made.{madeIn}
+use Rattle.tweak.specs.TweakLaw.{WithinLimits, TweakLaw}
+use Rattle.tweak.proofs.Limits.{text-fits, header-fits, text-tweak-bits, header-tweak-bits}
+
+-- each block of what is made
+made-block : (tweakOf : ℕ → List ℕ) → ((i : ℕ) → length (tweakOf i) ≡ 16) → (first k : ℕ) (lent : List ℕ) (i : ℕ) → i < k
+    → block (madeIn tweakOf first k lent) i ≡ tweakOf (first + i)
+made-block tweakOf long first k lent i h =
+    let g : ℕ → List ℕ = λ j. tweakOf (first + j) in
+    let whole : length (strung k g) ≡ 16 * k = strung-whole k g (λ j l. long (first + j)) in
+    block-append (strung k g) (drop (16 * k) lent) i (omega arith)
+    ∙ block-of-strung k g (λ j l. long (first + j)) (λ j l. le-of-eq (long (first + j))) i h
+
+-- by the mark's byte and its bits, from where each number fits and what its tweak is bit by bit
+module _ (limit : ℕ → ℕ) (byte : ℕ) (mark : List ℕ) (most : (n : ℕ) → limit n ≤ 2 ^ 24)
+    (fits : (nonce : List ℕ) → length nonce ≤ 15 → (i : ℕ) → i < blocksOf (limit (length nonce)) → i < 2 ^ (128 - 8 * length nonce - length mark))
+    (bits : (nonce : List ℕ) → length nonce ≤ 15 → (i : ℕ) → i < blocksOf (limit (length nonce))
+    → bitsOf (drop (length nonce) (tweak nonce byte i)) ≡ mark ++ highFirst (128 - 8 * length nonce - length mark) i) where
+  within-limits : WithinLimits limit (λ nonce i. tweak nonce byte i) mark
+  within-limits =
+      record {
+        small = λ n i h. omega (arith, most n);
+        makes = λ nonce short first k h lent room.
+            record {
+              makeable = record { short = short; room = room; fits = omega (arith, most (length nonce)) };
+              made = made-block (tweak nonce byte) (λ i. length-tweak nonce byte i (omega arith)) first k lent;
+              scope = λ i l.
+                  record {
+                    long = length-tweak nonce byte (first + i) (omega arith);
+                    nonceFirst = tweak-first nonce byte (first + i);
+                    fits = fits nonce short (first + i) (omega arith);
+                    thenNumber = bits nonce short (first + i) (omega arith);
+                  };
+            };
+      }
+
+pub tweak-law : TweakLaw
+tweak-law =
+    record {
+      text = within-limits textLimit 0x00 (0 ∷ []) text-limit-most
+          (λ nonce short i h.
+          let width : 128 - 8 * length nonce - 1 ≡ 127 - 8 * length nonce = omega arith in
+          rw width (text-fits nonce short i h))
+          (λ nonce short i h.
+          let width : 127 - 8 * length nonce ≡ 128 - 8 * length nonce - 1 = omega arith in
+          text-tweak-bits nonce short i h ∙ ap (λ (w : ℕ). 0 ∷ highFirst w i) width);
+      header = within-limits headerLimit 0x80 (1 ∷ 0 ∷ []) header-limit-most
+          (λ nonce short i h.
+          let width : 128 - 8 * length nonce - 2 ≡ 126 - 8 * length nonce = omega arith in
+          rw width (header-fits nonce short i h))
+          (λ nonce short i h.
+          let width : 126 - 8 * length nonce ≡ 128 - 8 * length nonce - 2 = omega arith in
+          header-tweak-bits nonce short i h ∙ ap (λ (w : ℕ). 1 ∷ 0 ∷ highFirst w i) width);
+      special = λ nonce short byte small. special-bytes nonce byte short small;
+    }

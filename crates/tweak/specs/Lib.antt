@@ -1,0 +1,3 @@
+pub mod Made
+pub mod TweakLaw
+pub mod Examples
