@@ -14,7 +14,7 @@ impl TextBlock {
         TextBlock(0)
     }
 
-    // The one k blocks behind. It serves our own crates, whose texts are within the limit.
+    // The one k blocks further on. It serves our own crates, whose texts are within the limit.
     pub fn after(self, k: usize) -> TextBlock
         requires { ⌜ self .0 + k < 2 ^ 32 ⌝ }
         ensures { λ r. ⌜ r .0 ≡ self .0 + k ⌝ }
@@ -49,7 +49,7 @@ impl HeaderBlock {
         HeaderBlock(0)
     }
 
-    // The one k blocks behind. It serves our own crates, whose headers are within the limit.
+    // The one k blocks further on. It serves our own crates, whose headers are within the limit.
     pub fn after(self, k: usize) -> HeaderBlock
         requires { ⌜ self .0 + k < 2 ^ 32 ⌝ }
         ensures { λ r. ⌜ r .0 ≡ self .0 + k ⌝ }

@@ -57,15 +57,15 @@ module _ (s : Suite) (key : List ℕ) {nonce : List ℕ} (u : Usable s nonce) (f
       ∙ sum-ext sum k (λ i. enciphers s key (tw i) (block b i)) (λ i. enciphers s key (tw i) (block h i))
       (λ i m. ap (enciphers s key (tw i)) (block-copied k h z room i m))
 
--- k blocks more
-pub sum-chunk : (e : ℕ → List ℕ → List ℕ) (h sum : List ℕ) (n k : ℕ) → sum ≡ sumOf n (λ i. e i (block h i))
-    → sumFrom sum k (λ i. e (n + i) (block (take (length h - 16 * n) (drop (16 * n) h)) i)) ≡ sumOf (n + k) (λ i. e i (block h i))
-sum-chunk e h sum n k p =
+-- k blocks more, from the place of block n on
+pub sum-chunk : (e : ℕ → List ℕ → List ℕ) (h sum : List ℕ) (n k at : ℕ) → at ≡ 16 * n → sum ≡ sumOf n (λ i. e i (block h i))
+    → sumFrom sum k (λ i. e (n + i) (block (take (length h - at) (drop at h)) i)) ≡ sumOf (n + k) (λ i. e i (block h i))
+sum-chunk e h sum n k at place p =
     let g : ℕ → List ℕ = λ i. e i (block h i) in
     (λ j. sumFrom ((p ∙ sym (sum-of n g)) j) k (λ i. e (n + i) (same i j))) ∙ sym (sum-add (replicate 16 0) n k g) ∙ sum-of (n + k) g
   where
-    same : (i : ℕ) → block (take (length h - 16 * n) (drop (16 * n) h)) i ≡ block h (n + i)
-    same i = ap (λ (x : List ℕ). block x i) (part-rest (16 * n) h) ∙ block-later n i h
+    same : (i : ℕ) → block (take (length h - at) (drop at h)) i ≡ block h (n + i)
+    same i = ap (λ (x : List ℕ). block x i) (part-rest at h ∙ ap (λ (m : ℕ). drop m h) place) ∙ block-later n i h
 
 -- all blocks: none, or the inner ones and the last
 module _ (e : List ℕ → List ℕ → List ℕ) (nonce h : List ℕ) where

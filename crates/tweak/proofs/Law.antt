@@ -1,5 +1,5 @@
 -- The law of the tweaks within the limits.
-use mathlib.Core.Path.{_≡_, ap, _∙_}
+use mathlib.Core.Path.{_≡_, _∙_}
 use mathlib.Core.List.{List, [], _∷_, _++_}
 use Prim.Native.Nat.{ℕ, _+_, _-_, _*_, _^_, _≤_, _<_}
 use native.Mathlib.Nat.{le-of-eq}
@@ -28,9 +28,9 @@ made-block tweakOf long first k lent i h =
 
 -- by the mark's byte and its bits, from where each number fits and what its tweak is bit by bit
 module _ (limit : ℕ → ℕ) (byte : ℕ) (mark : List ℕ) (most : (n : ℕ) → limit n ≤ 2 ^ 24)
-    (fits : (nonce : List ℕ) → length nonce ≤ 15 → (i : ℕ) → i < blocksOf (limit (length nonce)) → i < 2 ^ (128 - 8 * length nonce - length mark))
+    (fits : (nonce : List ℕ) → length nonce ≤ 15 → (i : ℕ) → i < blocksOf (limit (length nonce)) → i < 2 ^ (128 - length mark - 8 * length nonce))
     (bits : (nonce : List ℕ) → length nonce ≤ 15 → (i : ℕ) → i < blocksOf (limit (length nonce))
-    → bitsOf (drop (length nonce) (tweak nonce byte i)) ≡ mark ++ highFirst (128 - 8 * length nonce - length mark) i) where
+    → bitsOf (drop (length nonce) (tweak nonce byte i)) ≡ mark ++ highFirst (128 - length mark - 8 * length nonce) i) where
   within-limits : WithinLimits limit (λ nonce i. tweak nonce byte i) mark
   within-limits =
       record {
@@ -52,19 +52,7 @@ module _ (limit : ℕ → ℕ) (byte : ℕ) (mark : List ℕ) (most : (n : ℕ) 
 pub tweak-law : TweakLaw
 tweak-law =
     record {
-      text = within-limits textLimit 0x00 (0 ∷ []) text-limit-most
-          (λ nonce short i h.
-          let width : 128 - 8 * length nonce - 1 ≡ 127 - 8 * length nonce = omega arith in
-          rw width (text-fits nonce short i h))
-          (λ nonce short i h.
-          let width : 127 - 8 * length nonce ≡ 128 - 8 * length nonce - 1 = omega arith in
-          text-tweak-bits nonce short i h ∙ ap (λ (w : ℕ). 0 ∷ highFirst w i) width);
-      header = within-limits headerLimit 0x80 (1 ∷ 0 ∷ []) header-limit-most
-          (λ nonce short i h.
-          let width : 128 - 8 * length nonce - 2 ≡ 126 - 8 * length nonce = omega arith in
-          rw width (header-fits nonce short i h))
-          (λ nonce short i h.
-          let width : 126 - 8 * length nonce ≡ 128 - 8 * length nonce - 2 = omega arith in
-          header-tweak-bits nonce short i h ∙ ap (λ (w : ℕ). 1 ∷ 0 ∷ highFirst w i) width);
+      text = within-limits textLimit 0x00 (0 ∷ []) text-limit-most text-fits text-tweak-bits;
+      header = within-limits headerLimit 0x80 (1 ∷ 0 ∷ []) header-limit-most header-fits header-tweak-bits;
       special = λ nonce short byte small. special-bytes nonce byte short small;
     }

@@ -27,9 +27,11 @@ module _ (nonce : List ℕ) (short : length nonce ≤ 15) (i : ℕ) where
   header-fits h = limit-fits 126 (length nonce) i (omega arith) h
 
   -- "After the nonce, highest bit first, number big-endian in all remaining bits: not-last text block 0 and number"
-  pub text-tweak-bits : i < blocksOf (textLimit (length nonce)) → bitsOf (drop (length nonce) (textTweak nonce i)) ≡ 0 ∷ highFirst (127 - 8 * length nonce) i
+  pub text-tweak-bits : i < blocksOf (textLimit (length nonce))
+      → bitsOf (drop (length nonce) (textTweak nonce i)) ≡ 0 ∷ highFirst (127 - 8 * length nonce) i
   text-tweak-bits h = text-bits nonce i short (text-fits h)
 
   -- "not-last header block 10 and number"
-  pub header-tweak-bits : i < blocksOf (headerLimit (length nonce)) → bitsOf (drop (length nonce) (headerTweak nonce i)) ≡ 1 ∷ 0 ∷ highFirst (126 - 8 * length nonce) i
+  pub header-tweak-bits : i < blocksOf (headerLimit (length nonce))
+      → bitsOf (drop (length nonce) (headerTweak nonce i)) ≡ 1 ∷ 0 ∷ highFirst (126 - 8 * length nonce) i
   header-tweak-bits h = header-bits nonce i short (header-fits h)

@@ -16,8 +16,8 @@ use Rattle.tweak.specs.Made.{Makeable, madeIn}
 pub record IsTweak (nonce mark : List ℕ) (number : ℕ) (t : List ℕ) : Type 0 where
   pub long : length t ≡ 16
   pub nonceFirst : take (length nonce) t ≡ nonce
-  pub fits : number < 2 ^ (128 - 8 * length nonce - length mark)
-  pub thenNumber : bitsOf (drop (length nonce) t) ≡ mark ++ highFirst (128 - 8 * length nonce - length mark) number
+  pub fits : number < 2 ^ (128 - length mark - 8 * length nonce)
+  pub thenNumber : bitsOf (drop (length nonce) t) ≡ mark ++ highFirst (128 - length mark - 8 * length nonce) number
 
 -- the tweaks of the k numbers from `first` on can be made, these numbers being in 32 bits; each that is made is the definition's, and that is
 -- the scope's

@@ -49,16 +49,23 @@ window-requires c κs =
 
 -- what the first window leaves
 module _ (c : tie.After-window) where
-  abbrev T : List ℕ
-  T = let a = c .before .before .before .before .before .before .before .args in textOf (a .suite) (a .key) (a .nonce .now) (a .c .now)
+  abbrev begun : tie.Start
+  begun = c .before .before .before .before .before .before .before
 
-  T-long : length T ≡ length (c .before .before .before .before .before .before .before .args .c .now)
+  -- how many bytes the first window has
+  abbrev short : ℕ
+  short = c .before .before .before .lesser .result
+
+  abbrev T : List ℕ
+  T = let a = begun .args in textOf (a .suite) (a .key) (a .nonce .now) (a .c .now)
+
+  T-long : length T ≡ length (begun .args .c .now)
   T-long =
-      let p = c .before .before .before .before .before .before .before in
+      let p = begun in
       let a = p .args in
       text-long (a .suite) (a .key) (a .nonce .now) (p .pre .0 .usable .short) (a .c .now) (p .pre .0 .small)
 
-  windowed : c .window .last .1 .1 .1 .1 .1 .0 ≡ take (c .before .before .before .lesser .result) T
+  windowed : c .window .last .1 .1 .1 .1 .1 .0 ≡ take short T
   windowed =
       let h = c .before .before .before in
       let p = h .before .before .before .before in
@@ -70,12 +77,12 @@ module _ (c : tie.After-window) where
       (start-part (length (a .c .now)) n (p .pre .0 .small) (h .lesser .ensures))
 
   abbrev held : List ℕ
-  held = c .window .last .1 .1 .1 .1 .1 .0 ++ drop (c .before .before .before .lesser .result) (c .before .before .before .before .before .before .before .args .work .now)
+  held = c .window .last .1 .1 .1 .1 .1 .0 ++ drop short (begun .args .work .now)
 
-  held-is : held ≡ take (c .before .before .before .lesser .result) T ++ drop (c .before .before .before .lesser .result) (c .before .before .before .before .before .before .before .args .work .now)
-  held-is = ap (λ (l : List ℕ). l ++ drop (c .before .before .before .lesser .result) (c .before .before .before .before .before .before .before .args .work .now)) windowed
+  held-is : held ≡ take short T ++ drop short (begun .args .work .now)
+  held-is = ap (λ (l : List ℕ). l ++ drop short (begun .args .work .now)) windowed
 
-  held-long : length held ≡ length (c .before .before .before .before .before .before .before .args .work .now)
+  held-long : length held ≡ length (begun .args .work .now)
   held-long =
       let h = c .before .before .before in
       let a = h .before .before .before .before .args in
@@ -102,7 +109,7 @@ mul-lesser : tie.Need-mul-lesser
 mul-lesser c = let e = said c in search needs
 
 -- how far it is deciphered: the whole source is within
-ends : (c : tie.After-lesser2) → let m = length (c .before .before .before .before .before .before .before .before .before .before .before .before .before .args .c .now) in
+ends : (c : tie.After-lesser2) → let m = length (begun (c .before .before .before .before .before .before) .args .c .now) in
     (c .lesser2 .result ≡ min m (16 * ((c .before .pair .result + 17) / 16))) × (c .lesser2 .result ≤ 4112) × (2 + c .before .pair .result ≤ m)
 ends c =
     let e = said (c .before) in
@@ -122,8 +129,7 @@ second-long c =
     let w = l .before .before .before .before .before .before in
     length-take-le (l .lesser2 .result - 16) (drop 16 (held w)) (rw length-drop (omega (arith, ends l, held-long w)))
 
-behind : (c : tie.Then1) → Part (length (c .before .before .before .before .before .before .before .before .before .before .before .before .before .before .args .c .now)) 1
-    (c .before .lesser2 .result - 16)
+behind : (c : tie.Then1) → Part (length (begun (c .before .before .before .before .before .before .before) .args .c .now)) 1 (c .before .lesser2 .result - 16)
 behind c =
     let l = c .before in
     let p = l .before .before .before .before .before .before .before .before .before .before .before .before .before in
@@ -161,12 +167,16 @@ returns c =
     ∙ text-part (a .suite) (a .key) (a .nonce .now) (p .pre .0 .usable .short) (a .c .now) (p .pre .0 .small) 1 (e - 16) (behind t) in
     let first : take 16 x ≡ take 16 (T w) =
     ap (take 16) (held-is w) ∙ front-enough (T w) (drop n (a .work .now)) n 16 (omega arith) (omega (arith, T-long w)) in
+    let more : length (v .window2 .last .1 .1 .1 .1 .1 .0) ≡ length (take (e - 16) (drop 16 x)) =
+    ap length second
+    ∙ length-take-le (e - 16) (drop 16 (T w)) (rw length-drop (omega (arith, ends l, T-long w)))
+    ∙ sym (second-long t) in
     record {
       length-is = said (l .before);
       front =
           ap (λ (y : List ℕ). take (2 + r) (take 16 x ++ (y ++ drop (e - 16) (drop 16 x)))) second
           ∙ front-joined (T w) x (drop (e - 16) (drop 16 x)) (e - 16) (2 + r) first (omega (arith, ends l)) (omega (arith, ends l, T-long w));
-      long = same-len-mid 16 (e - 16) x (v .window2 .last .1 .1 .1 .1 .1 .0) (ap length second ∙ length-take-le (e - 16) (drop 16 (T w)) (rw length-drop (omega (arith, ends l, T-long w))) ∙ sym (second-long t)) ∙ held-long w;
+      long = same-len-mid 16 (e - 16) x (v .window2 .last .1 .1 .1 .1 .1 .0) more ∙ held-long w;
     }
 
 returns-2 : tie.Need-returns-2

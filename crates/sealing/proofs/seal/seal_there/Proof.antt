@@ -31,8 +31,9 @@ returns c =
     let t = take (a .m) (a .out .now) in
     let check = w .before .before .before .add-all .ensures ∙ checksum-is t in
     let tag = g .make .ensures ∙ (λ j. tagFrom e (a .nonce .now) (a .m) (check j) (g .before .sum .ensures j)) in
+    let text = w .through .ensures ∙ ap (λ (n : ℕ). through e e (a .nonce .now) (a .m) n t) (w .before .before .start .ensures) in
     c .before .before .put-at .ensures
-    ∙ (λ j. paste ((w .through .ensures ∙ ap (λ (n : ℕ). through e e (a .nonce .now) (a .m) n t) (w .before .before .start .ensures)) j ++ drop (a .m) (a .out .now)) (a .m) (tag j) 16)
+    ∙ (λ j. paste (text j ++ drop (a .m) (a .out .now)) (a .m) (tag j) 16)
     ∙ sealed-written (a .suite) (a .key) (a .nonce .now) (a .header .now) t (p .pre .0 .usable .short) (a .m) (front p) (a .out .now)
 
 pub seal-there-spec : {M : Type 1} → statement M
