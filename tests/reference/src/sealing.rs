@@ -366,8 +366,13 @@ mod tests {
             };
             assert!(last, "{place:?}");
         }
-        for n in 1..=15 {
-            assert!(header_limit(n).max(text_limit(n)) / 16 <= 1_048_576);
+        for n in 1..=12 {
+            assert_eq!((header_limit(n), text_limit(n)), (1 << 24, 1 << 24));
+            let mut tail = vec![0; 13 - n];
+            tail.extend([0x0F, 0xFF, 0xFF]);
+            assert_eq!(tweak(&vec![0xA5; n], Text(1_048_575))[n..], tail);
+            tail[0] = 0x80;
+            assert_eq!(tweak(&vec![0xA5; n], Header(1_048_575))[n..], tail);
         }
     }
 

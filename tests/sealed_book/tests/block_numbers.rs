@@ -1,4 +1,5 @@
-//! Block numbers past one and two bytes, up to the last within the limits, under every nonce length.
+//! Block numbers past one and two bytes, under every nonce length that allows them, and up to the last
+//! of the longest text.
 
 mod common;
 
@@ -9,8 +10,8 @@ use reference::sealing::{header_limit, text_limit, tweak, Place};
 
 const SEED: u64 = 0x424C_4E4F;
 
-/// Blocks of a header and of a text under a nonce of n bytes: as many as the limits allow, but some
-/// past 65,536 at most.
+/// Blocks of a header and of a text under a nonce of n bytes: as many as the limits allow, but at
+/// most 65,606.
 fn blocks(n: usize) -> (usize, usize) {
     let past = 65_536 + 70;
     (past.min(header_limit(n) / 16), past.min(text_limit(n) / 16))

@@ -136,7 +136,7 @@ behind c =
     rest-part (length (p .args .c .now)) (l .lesser2 .result - 16) (l .lesser2 .result) ((l .before .pair .result + 17) / 16) (p .pre .0 .small) (ends l .0)
     (c .if1 .taken) refl
 
--- it begins at block 1
+-- the second window begins at block 1
 second-number : (c : tie.After-after) → c .after .result .0 ≡ 1
 second-number c = omega arith
 

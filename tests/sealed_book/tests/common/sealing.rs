@@ -1,4 +1,4 @@
-//! Sealing and opening in the library, with every byte and number that it leaves compared.
+//! Sealing and opening in the library. `seal_gives` and `open_gives` compare every byte and number that it leaves.
 
 use std::hint::black_box;
 

@@ -63,7 +63,7 @@ blocks c =
     let w : h .lesser .result ≡ length (p .args .work .now) = omega arith in
     omega (arith, p .pre .2)
 
--- the block behind it
+-- the number of the first block behind what was copied
 next : (c : tie.After-after) → c .after .result .0 ≡ c .before .before .before .before .before .before .before .before .lesser .result / 16
 next c = omega arith
 
