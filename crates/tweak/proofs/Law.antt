@@ -10,7 +10,7 @@ use Rattle.blockwise.proofs.Each.{block-append, block-of-strung, strung-whole}
 use Rattle.calls.specs.Tweak.{tweak, blocksOf}
 use Rattle.calls.specs.TweakBits.{highFirst, bitsOf}
 use Rattle.calls.proofs.TweakBits.{tweak-first, special-bytes}
-use Rattle.calls.proofs.Tweaks.{length-tweak}
+use Rattle.calls.proofs.Tweaks.{length-tweak, bytes-tweak}
 use Rattle.limits.specs.Limits.{headerLimit, textLimit}
 use Rattle.limits.proofs.Passed.{header-limit-most, text-limit-most}
 use Rattle.tweak.specs.Made.{madeIn}
@@ -42,6 +42,7 @@ module _ (limit : ℕ → ℕ) (byte : ℕ) (mark : List ℕ) (most : (n : ℕ) 
               scope = λ i l.
                   record {
                     long = length-tweak nonce byte (first + i) (omega arith);
+                    bytes = bytes-tweak nonce byte (first + i);
                     nonceFirst = tweak-first nonce byte (first + i);
                     fits = fits nonce short (first + i) (omega arith);
                     thenNumber = bits nonce short (first + i) (omega arith);

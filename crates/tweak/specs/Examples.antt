@@ -5,6 +5,7 @@ use Prim.Native.Nat.{ℕ, _-_}
 use lib.ListN.{replicate}
 use Rattle.calls.specs.Tweak.{textTweak, headerTweak, blocksOf}
 use Rattle.limits.specs.Limits.{headerLimit, textLimit}
+use Rattle.tweak.specs.TweakLaw.{IsTweak}
 
 -- a nonce of n bytes
 abbrev pub someNonce : ℕ → List ℕ
@@ -21,6 +22,9 @@ pub record TweakExamples : Type 0 where
   pub under13 : LastNumbers 13 1048576 1048576 (0x0F ∷ 0xFF ∷ 0xFF ∷ []) (0x8F ∷ 0xFF ∷ 0xFF ∷ [])
   pub under14 : LastNumbers 14 32768 16384 (0x7F ∷ 0xFF ∷ []) (0xBF ∷ 0xFF ∷ [])
   pub under15 : LastNumbers 15 128 64 (0x7F ∷ []) (0xBF ∷ [])
+  -- what the law gives for the last numbers of all
+  pub lastText : IsTweak (someNonce 13) (0 ∷ []) 1048575 (textTweak (someNonce 13) 1048575)
+  pub lastHeader : IsTweak (someNonce 13) (1 ∷ 0 ∷ []) 1048575 (headerTweak (someNonce 13) 1048575)
   -- 65,536 does not fit into two bytes
   pub text65536 : textTweak (someNonce 12) 65536 ≡ someNonce 12 ++ 0x00 ∷ 0x01 ∷ 0x00 ∷ 0x00 ∷ []
   pub header65536 : headerTweak (someNonce 12) 65536 ≡ someNonce 12 ++ 0x80 ∷ 0x01 ∷ 0x00 ∷ 0x00 ∷ []

@@ -5,16 +5,18 @@ use mathlib.Core.Path.{_≡_}
 use mathlib.Core.List.{List, [], _∷_, _++_}
 use Prim.Native.Nat.{ℕ, _+_, _-_, _*_, _^_, _≤_, _<_}
 use lib.ListN.{length, take, drop, replicate}
+use Rattle.bits.specs.Bytes.{Bytes}
 use Rattle.blockwise.specs.Blocks.{block}
 use Rattle.calls.specs.Tweak.{textTweak, headerTweak, specialTweak, blocksOf}
 use Rattle.calls.specs.TweakBits.{highFirst, bitsOf}
 use Rattle.limits.specs.Limits.{headerLimit, textLimit}
 use Rattle.tweak.specs.Made.{Makeable, madeIn}
 
--- "A nonce .. stands first. After the nonce, highest bit first, number big-endian in all remaining bits", behind the bits of `mark`; the
--- number fits into these
+-- "A nonce has n bytes, 1 to 15, and stands first." "After the nonce, highest bit first, number big-endian in all remaining bits", which are
+-- those behind the bits of `mark`; the number fits into them, so that it is not cut off. For a nonce of bytes this is one string of bytes.
 pub record IsTweak (nonce mark : List ℕ) (number : ℕ) (t : List ℕ) : Type 0 where
   pub long : length t ≡ 16
+  pub bytes : Bytes nonce → Bytes t
   pub nonceFirst : take (length nonce) t ≡ nonce
   pub fits : number < 2 ^ (128 - length mark - 8 * length nonce)
   pub thenNumber : bitsOf (drop (length nonce) t) ≡ mark ++ highFirst (128 - length mark - 8 * length nonce) number
