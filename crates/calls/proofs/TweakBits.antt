@@ -4,12 +4,13 @@ use mathlib.Core.List.{List, _∷_, _++_}
 use Prim.Native.Nat.{ℕ, zero, suc, _+_, _-_, _*_, _/_, _%_, _^_, _≤_, _<_}
 use native.Mathlib.Nat.{zero-add, suc-add, mul-add-div-right, mul-add-mod-self-right, mul-assoc, pow-succ', div-add-mod', zero-div}
 use native.Mathlib.Omega.{arith}
-use lib.ListN.{length, take, drop, replicate}
+use lib.ListN.{length, getD, take, drop, replicate}
 use lib.Pow.{pow-pos, pow-add, shr-shr, high}
 use lib.Seq.{take-append-seam, drop-append-seam}
 use Rattle.bits.specs.Bit.{bit}
-use Rattle.bits.specs.Bytes.{bigEndian}
-use Rattle.bits.proofs.BigEndian.{bigEndian-marked}
+use Rattle.bits.specs.Bytes.{Bytes, bigEndian, numberOf}
+use Rattle.bits.proofs.BigEndian.{bigEndian-marked, bigEndian-numberOf, numberOf-lt}
+use Rattle.bits.proofs.Bits.{bit-ext}
 use Rattle.calls.specs.Tweak.{tweak, textTweak, headerTweak, specialTweak}
 use Rattle.calls.specs.TweakBits.{highFirst, bitsOf}
 
@@ -55,6 +56,35 @@ bits-bigEndian (suc k) v =
     (λ i. byte i ++ bits-bigEndian k v i)
     ∙ sym (highFirst-split 8 (8 * k) v)
     ∙ ap (λ (n : ℕ). highFirst n v) eight
+
+-- which bit stands at place u of w, and so a number by its bits
+bit-at : (u j w v : ℕ) → w ≡ suc (j + u) → getD (highFirst w v) u 0 ≡ bit v j
+unfolding highFirst
+bit-at zero j (suc w) v h = ap (bit v) (omega arith)
+bit-at (suc u) j (suc w) v h = bit-at u j w v (omega arith)
+bit-at u j zero v h = omega arith
+
+highFirst-inj : (w : ℕ) {a b : ℕ} → a < 2 ^ w → b < 2 ^ w → highFirst w a ≡ highFirst w b → a ≡ b
+highFirst-inj w {a} {b} ha hb e =
+    bit-ext w ha hb
+    (λ j h.
+    let u : ℕ = w - suc j in
+    let place : w ≡ suc (j + u) = omega arith in
+    sym (bit-at u j w a place) ∙ ap (λ (l : List ℕ). getD l u 0) e ∙ bit-at u j w b place)
+
+-- a string of bytes by its bits
+pub bits-one : (s t : List ℕ) → Bytes s → Bytes t → length s ≡ length t → bitsOf s ≡ bitsOf t → s ≡ t
+bits-one s t hs ht long e =
+    let numbers : numberOf s ≡ numberOf t =
+    highFirst-inj (8 * length s) (below s hs) (rw (sym long) at (below t ht))
+    (sym (bits-of s hs) ∙ e ∙ bits-of t ht ∙ ap (λ (n : ℕ). highFirst (8 * n) (numberOf t)) (sym long)) in
+    sym (bigEndian-numberOf s hs) ∙ (λ i. bigEndian (long i) (numbers i)) ∙ bigEndian-numberOf t ht
+  where
+    below : (x : List ℕ) → Bytes x → numberOf x < 2 ^ (8 * length x)
+    below x h = rw pow-bits at (numberOf-lt x h)
+
+    bits-of : (x : List ℕ) → Bytes x → bitsOf x ≡ highFirst (8 * length x) (numberOf x)
+    bits-of x h = ap bitsOf (sym (bigEndian-numberOf x h)) ∙ bits-bigEndian (length x) (numberOf x)
 
 -- "A nonce .. stands first."
 pub tweak-first : (nonce : List ℕ) (mark v : ℕ) → take (length nonce) (tweak nonce mark v) ≡ nonce

@@ -1,22 +1,47 @@
 -- The examples hold.
-use mathlib.Core.Path.{refl}
+use mathlib.Core.Path.{_≡_, refl, ap, _∙_}
+use mathlib.Core.List.{List, _++_}
+use Prim.Native.Nat.{ℕ, _+_, _-_, _≤_, _<_}
 use native.Mathlib.Omega.{arith}
-use lib.ListN.{replicate}
+use lib.ListN.{length, replicate, length-replicate}
 use Rattle.bits.specs.Bytes.{bigEndian}
-use Rattle.calls.specs.Tweak.{tweak}
+use Rattle.calls.specs.Tweak.{tweak, textTweak, headerTweak, blocksOf}
 use Rattle.limits.specs.Limits.{headerLimit, textLimit}
-use Rattle.tweak.specs.Examples.{someNonce, TweakExamples}
+use Rattle.tweak.specs.Examples.{someNonce, LastNumbers, TweakExamples}
+use Rattle.tweak.specs.TweakLaw.{IsTweak, WithinLimits}
 use Rattle.tweak.proofs.Law.{tweak-law}
+
+-- the law at the last of so many numbers
+last : {limit : ℕ → ℕ} {tweakOf : List ℕ → ℕ → List ℕ} {mark : List ℕ} → WithinLimits limit tweakOf mark
+    → (n : ℕ) → n ≤ 15 → (blocks : ℕ) → 0 < blocks → blocksOf (limit n) ≡ blocks
+    → IsTweak (someNonce n) mark (blocks - 1) (tweakOf (someNonce n) (blocks - 1))
+last {limit} law n short blocks some h =
+    let long : length (someNonce n) ≡ n = length-replicate n 0xA5 in
+    let room : blocksOf (limit (length (someNonce n))) ≡ blocks = ap (λ (l : ℕ). blocksOf (limit l)) long ∙ h in
+    let here : blocks - 1 + 0 ≡ blocks - 1 = omega arith in
+    rw here at (law .makes (someNonce n) (omega arith) (blocks - 1) 1 (omega arith) (replicate 16 0) (omega arith) .scope 0 (omega arith))
+
+under : (n texts headers : ℕ) {text header : List ℕ} → n ≤ 15 → 0 < texts → 0 < headers
+    → blocksOf (textLimit n) ≡ texts → blocksOf (headerLimit n) ≡ headers
+    → textTweak (someNonce n) (texts - 1) ≡ someNonce n ++ text → headerTweak (someNonce n) (headers - 1) ≡ someNonce n ++ header
+    → LastNumbers n texts headers text header
+under n texts headers short t h textBlocks headerBlocks textIs headerIs =
+    record {
+      textBlocks = textBlocks;
+      headerBlocks = headerBlocks;
+      textIs = textIs;
+      headerIs = headerIs;
+      textLaw = last (tweak-law .text) n short texts t textBlocks;
+      headerLaw = last (tweak-law .header) n short headers h headerBlocks;
+    }
 
 pub tweak-examples : TweakExamples
 unfolding tweak bigEndian headerLimit textLimit
 tweak-examples =
     record {
-      under13 = record { textBlocks = refl; headerBlocks = refl; textIs = refl; headerIs = refl };
-      under14 = record { textBlocks = refl; headerBlocks = refl; textIs = refl; headerIs = refl };
-      under15 = record { textBlocks = refl; headerBlocks = refl; textIs = refl; headerIs = refl };
-      lastText = tweak-law .text .makes (someNonce 13) (omega arith) 1048575 1 (omega arith) (replicate 16 0) (omega arith) .scope 0 (omega arith);
-      lastHeader = tweak-law .header .makes (someNonce 13) (omega arith) 1048575 1 (omega arith) (replicate 16 0) (omega arith) .scope 0 (omega arith);
+      under13 = under 13 1048576 1048576 (omega arith) (omega arith) (omega arith) refl refl refl refl;
+      under14 = under 14 32768 16384 (omega arith) (omega arith) (omega arith) refl refl refl refl;
+      under15 = under 15 128 64 (omega arith) (omega arith) (omega arith) refl refl refl refl;
       text65536 = refl;
       header65536 = refl;
     }

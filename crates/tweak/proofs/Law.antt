@@ -1,20 +1,22 @@
 -- The law of the tweaks within the limits.
-use mathlib.Core.Path.{_≡_, _∙_}
+use mathlib.Core.Path.{_≡_, sym, ap, _∙_}
 use mathlib.Core.List.{List, [], _∷_, _++_}
 use Prim.Native.Nat.{ℕ, _+_, _-_, _*_, _^_, _≤_, _<_}
 use native.Mathlib.Nat.{le-of-eq}
 use native.Mathlib.Omega.{arith}
-use lib.ListN.{length, drop}
+use lib.ListN.{length, drop, length-drop, take-append-drop}
+use Rattle.bits.specs.Bytes.{Bytes}
+use Rattle.bits.proofs.Bytes.{bytes-drop}
 use Rattle.blockwise.specs.Blocks.{block, strung}
 use Rattle.blockwise.proofs.Each.{block-append, block-of-strung, strung-whole}
 use Rattle.calls.specs.Tweak.{tweak, blocksOf}
 use Rattle.calls.specs.TweakBits.{highFirst, bitsOf}
-use Rattle.calls.proofs.TweakBits.{tweak-first, special-bytes}
+use Rattle.calls.proofs.TweakBits.{tweak-first, special-bytes, bits-one}
 use Rattle.calls.proofs.Tweaks.{length-tweak, bytes-tweak}
 use Rattle.limits.specs.Limits.{headerLimit, textLimit}
 use Rattle.limits.proofs.Passed.{header-limit-most, text-limit-most}
 use Rattle.tweak.specs.Made.{madeIn}
-use Rattle.tweak.specs.TweakLaw.{WithinLimits, TweakLaw}
+use Rattle.tweak.specs.TweakLaw.{IsTweak, WithinLimits, TweakLaw}
 use Rattle.tweak.proofs.Limits.{text-fits, header-fits, text-tweak-bits, header-tweak-bits}
 
 -- each block of what is made
@@ -50,10 +52,20 @@ module _ (limit : ℕ → ℕ) (byte : ℕ) (mark : List ℕ) (most : (n : ℕ) 
             };
       }
 
+-- the nonce, then bytes that their bits say
+one : (nonce mark : List ℕ) (number : ℕ) (t u : List ℕ) → Bytes nonce → IsTweak nonce mark number t → IsTweak nonce mark number u → t ≡ u
+one nonce mark number t u h x y =
+    let n : ℕ = length nonce in
+    let long : length (drop n t) ≡ length (drop n u) = length-drop n t ∙ ap (λ (l : ℕ). l - n) (x .long ∙ sym (y .long)) ∙ sym (length-drop n u) in
+    let rest : drop n t ≡ drop n u =
+    bits-one (drop n t) (drop n u) (bytes-drop n t (x .bytes h)) (bytes-drop n u (y .bytes h)) long (x .thenNumber ∙ sym (y .thenNumber)) in
+    sym (take-append-drop n t) ∙ (λ i. (x .nonceFirst ∙ sym (y .nonceFirst)) i ++ rest i) ∙ take-append-drop n u
+
 pub tweak-law : TweakLaw
 tweak-law =
     record {
       text = within-limits textLimit 0x00 (0 ∷ []) text-limit-most text-fits text-tweak-bits;
       header = within-limits headerLimit 0x80 (1 ∷ 0 ∷ []) header-limit-most header-fits header-tweak-bits;
+      one = one;
       special = λ nonce short byte small. special-bytes nonce byte short small;
     }

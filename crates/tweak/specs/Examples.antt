@@ -11,20 +11,19 @@ use Rattle.tweak.specs.TweakLaw.{IsTweak}
 abbrev pub someNonce : ℕ → List ℕ
 someNonce n = replicate n 0xA5
 
--- how many blocks a text and a header may have under a nonce of n bytes, and the tweaks of their last numbers
+-- how many blocks a text and a header may have under a nonce of n bytes, the tweaks of their last numbers, and that the law reaches these
 pub record LastNumbers (n texts headers : ℕ) (text header : List ℕ) : Type 0 where
   pub textBlocks : blocksOf (textLimit n) ≡ texts
   pub headerBlocks : blocksOf (headerLimit n) ≡ headers
   pub textIs : textTweak (someNonce n) (texts - 1) ≡ someNonce n ++ text
   pub headerIs : headerTweak (someNonce n) (headers - 1) ≡ someNonce n ++ header
+  pub textLaw : IsTweak (someNonce n) (0 ∷ []) (texts - 1) (textTweak (someNonce n) (texts - 1))
+  pub headerLaw : IsTweak (someNonce n) (1 ∷ 0 ∷ []) (headers - 1) (headerTweak (someNonce n) (headers - 1))
 
 pub record TweakExamples : Type 0 where
   pub under13 : LastNumbers 13 1048576 1048576 (0x0F ∷ 0xFF ∷ 0xFF ∷ []) (0x8F ∷ 0xFF ∷ 0xFF ∷ [])
   pub under14 : LastNumbers 14 32768 16384 (0x7F ∷ 0xFF ∷ []) (0xBF ∷ 0xFF ∷ [])
   pub under15 : LastNumbers 15 128 64 (0x7F ∷ []) (0xBF ∷ [])
-  -- what the law gives for the last numbers of all
-  pub lastText : IsTweak (someNonce 13) (0 ∷ []) 1048575 (textTweak (someNonce 13) 1048575)
-  pub lastHeader : IsTweak (someNonce 13) (1 ∷ 0 ∷ []) 1048575 (headerTweak (someNonce 13) 1048575)
   -- 65,536 does not fit into two bytes
   pub text65536 : textTweak (someNonce 12) 65536 ≡ someNonce 12 ++ 0x00 ∷ 0x01 ∷ 0x00 ∷ 0x00 ∷ []
   pub header65536 : headerTweak (someNonce 12) 65536 ≡ someNonce 12 ++ 0x80 ∷ 0x01 ∷ 0x00 ∷ 0x00 ∷ []

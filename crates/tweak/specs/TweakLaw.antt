@@ -13,7 +13,7 @@ use Rattle.limits.specs.Limits.{headerLimit, textLimit}
 use Rattle.tweak.specs.Made.{Makeable, madeIn}
 
 -- "A nonce has n bytes, 1 to 15, and stands first." "After the nonce, highest bit first, number big-endian in all remaining bits", which are
--- those behind the bits of `mark`; the number fits into them, so that it is not cut off. For a nonce of bytes this is one string of bytes.
+-- those behind the bits of `mark`; the number fits into them, so that it is not cut off
 pub record IsTweak (nonce mark : List ℕ) (number : ℕ) (t : List ℕ) : Type 0 where
   pub long : length t ≡ 16
   pub bytes : Bytes nonce → Bytes t
@@ -43,6 +43,8 @@ pub record TweakLaw : Type 0 where
   pub text : WithinLimits textLimit textTweak (0 ∷ [])
   -- "not-last header block 10 and number"
   pub header : WithinLimits headerLimit headerTweak (1 ∷ 0 ∷ [])
+  -- and under a nonce of bytes no other string is
+  pub one : (nonce mark : List ℕ) (number : ℕ) (t u : List ℕ) → Bytes nonce → IsTweak nonce mark number t → IsTweak nonce mark number u → t ≡ u
   -- last blocks and the tag, without a number: "Special tweaks have after the nonce one byte, then zeros"
   pub special : (nonce : List ℕ) → length nonce ≤ 15 → (byte : ℕ) → byte < 256
       → specialTweak nonce byte ≡ nonce ++ byte ∷ replicate (15 - length nonce) 0

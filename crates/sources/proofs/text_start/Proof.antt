@@ -53,19 +53,18 @@ module _ (c : tie.After-window) where
   begun = c .before .before .before .before .before .before .before
 
   -- how many bytes the first window has
-  abbrev short : ℕ
-  short = c .before .before .before .lesser .result
+  abbrev front : ℕ
+  front = c .before .before .before .lesser .result
 
   abbrev T : List ℕ
   T = let a = begun .args in textOf (a .suite) (a .key) (a .nonce .now) (a .c .now)
 
   T-long : length T ≡ length (begun .args .c .now)
   T-long =
-      let p = begun in
-      let a = p .args in
-      text-long (a .suite) (a .key) (a .nonce .now) (p .pre .0 .usable .short) (a .c .now) (p .pre .0 .small)
+      let a = begun .args in
+      text-long (a .suite) (a .key) (a .nonce .now) (begun .pre .0 .usable .short) (a .c .now) (begun .pre .0 .small)
 
-  windowed : c .window .last .1 .1 .1 .1 .1 .0 ≡ take short T
+  windowed : c .window .last .1 .1 .1 .1 .1 .0 ≡ take front T
   windowed =
       let h = c .before .before .before in
       let p = h .before .before .before .before in
@@ -77,10 +76,10 @@ module _ (c : tie.After-window) where
       (start-part (length (a .c .now)) n (p .pre .0 .small) (h .lesser .ensures))
 
   abbrev held : List ℕ
-  held = c .window .last .1 .1 .1 .1 .1 .0 ++ drop short (begun .args .work .now)
+  held = c .window .last .1 .1 .1 .1 .1 .0 ++ drop front (begun .args .work .now)
 
-  held-is : held ≡ take short T ++ drop short (begun .args .work .now)
-  held-is = ap (λ (l : List ℕ). l ++ drop short (begun .args .work .now)) windowed
+  held-is : held ≡ take front T ++ drop front (begun .args .work .now)
+  held-is = ap (λ (l : List ℕ). l ++ drop front (begun .args .work .now)) windowed
 
   held-long : length held ≡ length (begun .args .work .now)
   held-long =
@@ -132,7 +131,7 @@ second-long c =
 behind : (c : tie.Then1) → Part (length (begun (c .before .before .before .before .before .before .before) .args .c .now)) 1 (c .before .lesser2 .result - 16)
 behind c =
     let l = c .before in
-    let p = l .before .before .before .before .before .before .before .before .before .before .before .before .before in
+    let p = begun (l .before .before .before .before .before .before) in
     rest-part (length (p .args .c .now)) (l .lesser2 .result - 16) (l .lesser2 .result) ((l .before .pair .result + 17) / 16) (p .pre .0 .small) (ends l .0)
     (c .if1 .taken) refl
 
@@ -143,7 +142,7 @@ second-number c = omega arith
 window-requires-2 : tie.Need-window-requires-2
 window-requires-2 c κs =
     let t = c .before .before in
-    let p = t .before .before .before .before .before .before .before .before .before .before .before .before .before .before in
+    let p = begun (t .before .before .before .before .before .before .before) in
     (p .pre .0, rw (second-long t, second-number (c .before)) (behind t))
 
 returns : tie.Need-returns
