@@ -9,7 +9,7 @@ use lib.Pow.{pow-pos, pow-add, shr-shr, high}
 use lib.Seq.{take-append-seam, drop-append-seam}
 use Rattle.bits.specs.Bit.{bit}
 use Rattle.bits.specs.Bytes.{Bytes, bigEndian, numberOf}
-use Rattle.bits.proofs.BigEndian.{bigEndian-marked, bigEndian-numberOf, numberOf-lt}
+use Rattle.bits.proofs.BigEndian.{bigEndian-marked, bigEndian-numberOf, numberOf-lt, bytes-bigEndian}
 use Rattle.bits.proofs.Bits.{bit-ext}
 use Rattle.calls.specs.Tweak.{tweak, textTweak, headerTweak, specialTweak}
 use Rattle.calls.specs.TweakBits.{highFirst, bitsOf}
@@ -90,6 +90,14 @@ bits-one s t hs ht long e =
 pub tweak-first : (nonce : List ℕ) (mark v : ℕ) → take (length nonce) (tweak nonce mark v) ≡ nonce
 unfolding tweak
 tweak-first nonce mark v = take-append-seam nonce (bigEndian (16 - length nonce) (mark * 256 ^ (15 - length nonce) + v))
+
+-- behind it stand bytes
+pub tweak-rest : (nonce : List ℕ) (mark v : ℕ) → Bytes (drop (length nonce) (tweak nonce mark v))
+unfolding tweak
+tweak-rest nonce mark v =
+    let k : ℕ = 16 - length nonce in
+    let x : ℕ = mark * 256 ^ (15 - length nonce) + v in
+    rw (drop-append-seam nonce (bigEndian k x)) (bytes-bigEndian k x)
 
 module _ (nonce : List ℕ) (i : ℕ) (hn : length nonce ≤ 15) where
   -- a mark whose first w bits are those of a: these bits, and behind them the number

@@ -1,4 +1,4 @@
--- Bits one behind the other, as the laws of proofs/TweakBits read a tweak behind its nonce.
+-- Bits one behind the other, as the laws read a tweak behind its nonce (proofs/TweakBits, and TweakLaw of tweak).
 use mathlib.Core.List.{List, [], _∷_, _++_}
 use Prim.Native.Nat.{ℕ, zero, suc}
 use Rattle.bits.specs.Bit.{bit}

@@ -1,7 +1,7 @@
--- The last numbers within the limits, and numbers past two bytes: their tweaks, written by hand.
+-- The last numbers within the limits, and numbers past two bytes: their tweaks, written by hand; and the law, applied.
 use mathlib.Core.Path.{_≡_}
 use mathlib.Core.List.{List, [], _∷_, _++_}
-use Prim.Native.Nat.{ℕ, _-_}
+use Prim.Native.Nat.{ℕ, _-_, _<_}
 use lib.ListN.{replicate}
 use Rattle.calls.specs.Tweak.{textTweak, headerTweak, blocksOf}
 use Rattle.limits.specs.Limits.{headerLimit, textLimit}
@@ -11,14 +11,15 @@ use Rattle.tweak.specs.TweakLaw.{IsTweak}
 abbrev pub someNonce : ℕ → List ℕ
 someNonce n = replicate n 0xA5
 
--- how many blocks a text and a header may have under a nonce of n bytes, the tweaks of their last numbers, and that the law reaches these
+-- how many blocks a text and a header may have under a nonce of n bytes, the tweaks of their last numbers, and that each number's tweak is the
+-- scope's, which proofs/Examples takes from the law
 pub record LastNumbers (n texts headers : ℕ) (text header : List ℕ) : Type 0 where
   pub textBlocks : blocksOf (textLimit n) ≡ texts
   pub headerBlocks : blocksOf (headerLimit n) ≡ headers
   pub textIs : textTweak (someNonce n) (texts - 1) ≡ someNonce n ++ text
   pub headerIs : headerTweak (someNonce n) (headers - 1) ≡ someNonce n ++ header
-  pub textLaw : IsTweak (someNonce n) (0 ∷ []) (texts - 1) (textTweak (someNonce n) (texts - 1))
-  pub headerLaw : IsTweak (someNonce n) (1 ∷ 0 ∷ []) (headers - 1) (headerTweak (someNonce n) (headers - 1))
+  pub textLaw : (i : ℕ) → i < texts → IsTweak (someNonce n) (0 ∷ []) i (textTweak (someNonce n) i)
+  pub headerLaw : (i : ℕ) → i < headers → IsTweak (someNonce n) (1 ∷ 0 ∷ []) i (headerTweak (someNonce n) i)
 
 pub record TweakExamples : Type 0 where
   pub under13 : LastNumbers 13 1048576 1048576 (0x0F ∷ 0xFF ∷ 0xFF ∷ []) (0x8F ∷ 0xFF ∷ 0xFF ∷ [])

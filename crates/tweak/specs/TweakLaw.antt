@@ -1,5 +1,5 @@
--- The law of request 3: 32 bits hold the number of every block within the limits, and its tweak is the scope's, byte for byte. It speaks of the
--- contracts of the makers: `text_tweaks` needs `Makeable` and leaves `madeIn` of `textTweak`, `header_tweaks` the same of `headerTweak`, and
+-- The law of request 3: 32 bits hold the number of every block within the limits, and the tweak of each number is the scope's, byte for byte. It
+-- speaks of the contracts of the makers: `text_tweaks` needs `Makeable` and leaves `madeIn` of `textTweak`, `header_tweaks` the same of `headerTweak`, and
 -- `special_tweak` gives `specialTweak`.
 use mathlib.Core.Path.{_≡_}
 use mathlib.Core.List.{List, [], _∷_, _++_}
@@ -16,7 +16,8 @@ use Rattle.tweak.specs.Made.{Makeable, madeIn}
 -- those behind the bits of `mark`; the number fits into them, so that it is not cut off
 pub record IsTweak (nonce mark : List ℕ) (number : ℕ) (t : List ℕ) : Type 0 where
   pub long : length t ≡ 16
-  pub bytes : Bytes nonce → Bytes t
+  -- bytes stand behind the nonce: bits alone would not tell 261 from 5
+  pub bytes : Bytes (drop (length nonce) t)
   pub nonceFirst : take (length nonce) t ≡ nonce
   pub fits : number < 2 ^ (128 - length mark - 8 * length nonce)
   pub thenNumber : bitsOf (drop (length nonce) t) ≡ mark ++ highFirst (128 - length mark - 8 * length nonce) number
@@ -43,8 +44,8 @@ pub record TweakLaw : Type 0 where
   pub text : WithinLimits textLimit textTweak (0 ∷ [])
   -- "not-last header block 10 and number"
   pub header : WithinLimits headerLimit headerTweak (1 ∷ 0 ∷ [])
-  -- and under a nonce of bytes no other string is
-  pub one : (nonce mark : List ℕ) (number : ℕ) (t u : List ℕ) → Bytes nonce → IsTweak nonce mark number t → IsTweak nonce mark number u → t ≡ u
-  -- last blocks and the tag, without a number: "Special tweaks have after the nonce one byte, then zeros"
+  -- at most one string is the tweak of a nonce, a mark and a number
+  pub one : (nonce mark : List ℕ) (number : ℕ) (t u : List ℕ) → IsTweak nonce mark number t → IsTweak nonce mark number u → t ≡ u
+  -- without a number: "Special tweaks have after the nonce one byte, then zeros"; which byte a last block and the tag have is in calls/specs/Tweak
   pub special : (nonce : List ℕ) → length nonce ≤ 15 → (byte : ℕ) → byte < 256
       → specialTweak nonce byte ≡ nonce ++ byte ∷ replicate (15 - length nonce) 0

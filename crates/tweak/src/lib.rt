@@ -1,5 +1,6 @@
-// The tweaks of a sealing's cipher calls. specs/TweakLaw says that within the limits each is the scope's, byte for byte. Each public function
-// serves the crates above, which have tested the nonce's length and the limits.
+// The tweaks of a sealing's cipher calls. specs/TweakLaw says that within the limits that of each number is the scope's, byte for byte, and that
+// a special one is as the scope says of its byte. Each public function serves the crates above, which have tested the nonce's length and the
+// limits.
 use block_numbers::HeaderBlock;
 use block_numbers::TextBlock;
 ghost use mathlib.Core.Path.{_≡_};
