@@ -2,7 +2,9 @@ pub mod Added
 pub mod BigEndian
 pub mod Bits
 pub mod Bytes
+pub mod Elements
 pub mod Fronts
 pub mod Lists
+pub mod Shifts
 pub mod Tests
 pub mod Same

@@ -90,6 +90,12 @@ strung-add n (suc k) g =
     ∙ ap (λ (x : List ℕ). x ++ g (n + k)) (strung-add n k g)
     ∙ append-assoc (strung n g) (strung k (λ i. g (n + i))) (g (n + k))
 
+-- strung blocks that are the same
+pub strung-ext : (n : ℕ) (f g : ℕ → List ℕ) → ((i : ℕ) → i < n → f i ≡ g i) → strung n f ≡ strung n g
+unfolding strung
+strung-ext zero f g h = refl
+strung-ext (suc n) f g h = λ j. strung-ext n f g (λ i l. h i (omega arith)) j ++ h n (omega arith) j
+
 -- block i of strung blocks, of which only the last may be shorter
 pub block-of-strung : (n : ℕ) (g : ℕ → List ℕ) → ((i : ℕ) → suc i < n → length (g i) ≡ 16) → ((i : ℕ) → i < n → length (g i) ≤ 16)
     → (i : ℕ) → i < n → block (strung n g) i ≡ g i

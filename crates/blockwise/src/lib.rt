@@ -1,5 +1,6 @@
-// Blocks in a slice of bytes: how many there are, one read, one put.
+// Bytes and blocks in a slice: bytes copied; how many blocks there are, one read, one put.
 ghost use mathlib.Core.Path.{_≡_};
+ghost use mathlib.Core.List.{_++_};
 ghost use Prim.Native.Nat.{_+_, _/_, _≤_, min};
 ghost use lib.ListN.{length, take, drop};
 ghost use lib.Seq.{paste};
@@ -33,6 +34,19 @@ pub fn put_at(d: &mut [u8], at: usize, b: [u8; 16])
     let mut i: usize = 0;
     while i < 16 {
         d[at + i] = b[i];
+        i += 1;
+    }
+}
+
+// The bytes of s at the start of d; likewise.
+pub fn copy(s: &[u8], d: &mut [u8])
+    requires { ⌜ length (now s) ≤ length (now d) ⌝ }
+    ensures { λ r. ⌜ now (d .exit) ≡ now (s .entry) ++ drop (length (now (s .entry))) (now (d .entry)) ⌝ }
+{
+    let n = s.len();
+    let mut i: usize = 0;
+    while i < n {
+        d[i] = s[i];
         i += 1;
     }
 }

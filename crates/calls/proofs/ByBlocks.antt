@@ -11,7 +11,7 @@ use Rattle.bits.specs.Bytes.{added}
 use Rattle.bits.specs.Table.{tab}
 use Rattle.bits.proofs.Added.{length-added, added-comm, added-assoc, added-zeros}
 use Rattle.blockwise.specs.Blocks.{block}
-use Rattle.blockwise.proofs.Each.{Blockwise, block-long}
+use Rattle.blockwise.proofs.Each.{Blockwise, block-long, strung-ext}
 use Rattle.calls.specs.Tweak.{tweak, textTweak, headerTweak, specialTweak, blocksOf, inner, lastTextMark, lastHeaderMark, tagMark}
 use Rattle.calls.specs.Calls.{CipherCall, filled, lengthBlock, sumOf, checksum, headerCall, textCall, tagCall, blockCalls, calls}
 use Rattle.calls.specs.Sealing.{
@@ -33,7 +33,7 @@ use Rattle.calls.specs.Sealing.{
 }
 use Rattle.calls.specs.Pieces.{piece, through, headerSum, tagFrom}
 use Rattle.calls.proofs.Tweaks.{length-tweak}
-use Rattle.calls.proofs.Strung.{strung-ext, length-strung, block-short}
+use Rattle.calls.proofs.Strung.{length-strung, block-short}
 
 -- lengths
 

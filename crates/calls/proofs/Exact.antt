@@ -13,13 +13,13 @@ use Rattle.bits.proofs.Added.{length-added, added-twice, bytes-added}
 use Rattle.bits.proofs.Bytes.{bytes-nil, bytes-cons, bytes-append, bytes-take, bytes-zeros}
 use Rattle.state.specs.Block.{Block}
 use Rattle.blockwise.specs.Blocks.{block, strung}
-use Rattle.blockwise.proofs.Each.{Blockwise, block-long, block-of-strung}
+use Rattle.blockwise.proofs.Each.{Blockwise, block-long, block-of-strung, strung-ext}
 use Rattle.calls.specs.Tweak.{tweak, textTweak, specialTweak, blocksOf, inner, lastTextMark}
 use Rattle.calls.specs.Calls.{lengthBlock, checksum}
 use Rattle.calls.specs.Sealing.{sealing, opening, openingTag}
 use Rattle.calls.specs.Pieces.{piece, through, headerSum, tagFrom}
 use Rattle.calls.proofs.Tweaks.{length-tweak, bytes-tweak}
-use Rattle.calls.proofs.Strung.{strung-ext, strung-blocks, block-short, bytes-block, bytes-strung}
+use Rattle.calls.proofs.Strung.{strung-blocks, block-short, bytes-block, bytes-strung}
 use Rattle.calls.proofs.ByBlocks.{length-pad, inner-long, length-piece, length-through, sealing-is, length-sealing, opening-is, openingTag-is}
 
 -- two functions that undo each other on blocks

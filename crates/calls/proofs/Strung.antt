@@ -10,11 +10,6 @@ use Rattle.bits.proofs.Bytes.{bytes-nil, bytes-append, bytes-take, bytes-drop}
 use Rattle.blockwise.specs.Blocks.{block, strung}
 use Rattle.calls.specs.Tweak.{blocksOf}
 
-pub strung-ext : (n : ℕ) (f g : ℕ → List ℕ) → ((i : ℕ) → i < n → f i ≡ g i) → strung n f ≡ strung n g
-unfolding strung
-strung-ext zero f g h = refl
-strung-ext (suc n) f g h = λ j. strung-ext n f g (λ i l. h i (omega arith)) j ++ h n (omega arith) j
-
 strung-front : (n : ℕ) (x : List ℕ) → strung n (block x) ≡ take (16 * n) x
 unfolding strung
 strung-front zero x = refl

@@ -17,7 +17,7 @@ fn put_text(s: &[u8], out: &mut [u8], at: usize) -> usize
     requires { ⌜ at + length (now s) ≤ length (now out) ⌝ }
     ensures { λ r. ⌜ Behind at (now (s .entry)) (now (out .entry)) (now (out .exit)) r ⌝ }
 {
-    sums::copy(s, &mut out[at..]);
+    blockwise::copy(s, &mut out[at..]);
     at + s.len()
 }
 

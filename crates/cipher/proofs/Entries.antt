@@ -21,7 +21,7 @@ use Rattle.suites.specs.Suite.{listed, cipherOf}
 use Rattle.cipher.specs.Entry.{enciphered, deciphered, encipheredBlocks, decipheredBlocks}
 
 -- no suite has more than 14 steps
-listed-steps : (cipher n : ℕ) → listed cipher n ≡ true → n ≤ 14
+pub listed-steps : (cipher n : ℕ) → listed cipher n ≡ true → n ≤ 14
 listed-steps cipher n e =
     either (eqb cipher 1 && four 6 8 10 12) (eqb cipher 2 && four 8 10 12 14)
     (λ h. among 6 8 10 12 (lit≤ tt) (lit≤ tt) (lit≤ tt) (lit≤ tt) (and-eq-true-iff (eqb cipher 1) (four 6 8 10 12) .0 h .1))
@@ -44,6 +44,13 @@ listed-steps cipher n e =
         (either (eqb n a || eqb n b) (eqb n c) (either (eqb n a) (eqb n b) (is a ha) (is b hb)) (is c hc))
         (is d hd)
 
+-- a run of all steps, of at most 14
+pub run-is : (f g : List ℕ → List ℕ → List ℕ) → ((t b : List ℕ) → f t b ≡ g t b) → (n : ℕ) → n ≤ 14 → (t b : List ℕ)
+    → eachUpTo14 (0 + n) f t b ≡ eachBlock g t b
+run-is f g same n h t b =
+    let few : leb (0 + n) 14 ≡ true = le-leb (0 + n) 14 (omega arith) in
+    λ i. cond (few i) (each-ext same t b i) b
+
 -- Many blocks under a suite, which are done by runs; `f` is a block's run, `g` what it is by definition.
 module _ (f g : Cipher → ℕ → List ℕ → List ℕ → List ℕ → List ℕ)
     (same : (c : Cipher) (n : ℕ) (key t b : List ℕ) → f c n key t b ≡ g c n key t b) (cipher n : ℕ) (key t b : List ℕ) where
@@ -63,6 +70,11 @@ module _ (f g : Cipher → ℕ → List ℕ → List ℕ → List ℕ → List �
       let each : eachBlock (f c n key) t b ≡ eachBlock (g (cipherOf cipher) n key) t b =
       ap (λ (k : Cipher). eachBlock (f k n key) t b) ec ∙ each-ext (same (cipherOf cipher) n key) t b in
       (ap answer (sym e), ex ∙ (λ i. cond (few i) (each i) b) ∙ ap under (sym e))
+
+  -- the same without runs
+  pub listed-many : listed cipher n ≡ true → {c : Cipher} → c ≡ cipherOf cipher → {x : List ℕ} → x ≡ eachBlock (g c n key) t b
+      → (Done ≡ answer (listed cipher n)) × (x ≡ under (listed cipher n))
+  listed-many e ec ex = (ap answer (sym e), ex ∙ ap (λ (k : Cipher). eachBlock (g k n key) t b) ec ∙ ap under (sym e))
 
 -- many blocks that are one
 module _ (cipher n : ℕ) (key t b : List ℕ) (ht : length t ≡ 16) (hb : length b ≡ 16) where

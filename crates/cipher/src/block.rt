@@ -1,9 +1,10 @@
-// One block: enciphered, deciphered, and a step of each.
+// One block: enciphered, deciphered, and a step of each. The L-box is looked up in tables, at places that depend on the block and the key.
 use rounds::Cipher;
 use suites::refusal::Answer;
+use suites::refusal::Refusal;
 use suites::suite::Suite;
 ghost use mathlib.Core.Path.{_≡_};
-ghost use Rattle.cipher.specs.Entry.{enciphered, deciphered};
+ghost use Rattle.cipher.specs.Entry.{enciphered, deciphered, encipheredBlocks, decipheredBlocks};
 ghost use Rattle.rounds.specs.Cipher.{stepped, unstepped};
 ghost use Rattle.suites.specs.Suite.{suiteAnswer};
 
@@ -13,13 +14,39 @@ pub struct Outcome {
     pub block: [u8; 16],
 }
 
+// Many blocks enciphered one after the other, with the L-box looked up in tables.
+fn look_up_ahead(suite: Suite, key: [u8; 16], tweaks: &[u8], blocks: &mut [u8]) -> Answer
+    ensures { λ r. ⌜ (r ≡ suiteAnswer (suite .cipher) (suite .steps))
+        × (now (blocks .exit) ≡ encipheredBlocks (suite .cipher) (suite .steps) key (now (tweaks .entry)) (now (blocks .entry))) ⌝ }
+{
+    if !suite.is_listed() {
+        return Answer::Refused(Refusal::SuiteNotListed);
+    }
+    let n = suite.steps as usize;
+    runs::run_ahead(suite.cipher_of(), 0, n, true, key, tweaks, blocks);
+    Answer::Done
+}
+
+// The same, deciphered.
+fn look_up_back(suite: Suite, key: [u8; 16], tweaks: &[u8], blocks: &mut [u8]) -> Answer
+    ensures { λ r. ⌜ (r ≡ suiteAnswer (suite .cipher) (suite .steps))
+        × (now (blocks .exit) ≡ decipheredBlocks (suite .cipher) (suite .steps) key (now (tweaks .entry)) (now (blocks .entry))) ⌝ }
+{
+    if !suite.is_listed() {
+        return Answer::Refused(Refusal::SuiteNotListed);
+    }
+    let n = suite.steps as usize;
+    runs::run_back(suite.cipher_of(), 0, n, true, key, tweaks, blocks);
+    Answer::Done
+}
+
 // The block enciphered, or refusal 1 and the block as it was.
 pub fn encipher(suite: Suite, key: [u8; 16], tweak: [u8; 16], block: [u8; 16]) -> Outcome
     ensures { λ r. ⌜ (r .answer ≡ suiteAnswer (suite .cipher) (suite .steps))
         × (r .block ≡ enciphered (suite .cipher) (suite .steps) key tweak block) ⌝ }
 {
     let mut b = block;
-    let answer = crate::blocks::encipher_blocks(suite, key, &tweak, &mut b);
+    let answer = look_up_ahead(suite, key, &tweak, &mut b);
     Outcome { answer, block: b }
 }
 
@@ -29,7 +56,7 @@ pub fn decipher(suite: Suite, key: [u8; 16], tweak: [u8; 16], block: [u8; 16]) -
         × (r .block ≡ deciphered (suite .cipher) (suite .steps) key tweak block) ⌝ }
 {
     let mut b = block;
-    let answer = crate::blocks::decipher_blocks(suite, key, &tweak, &mut b);
+    let answer = look_up_back(suite, key, &tweak, &mut b);
     Outcome { answer, block: b }
 }
 

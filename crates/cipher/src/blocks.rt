@@ -16,7 +16,7 @@ pub fn encipher_blocks(suite: Suite, key: [u8; 16], tweaks: &[u8], blocks: &mut 
         return Answer::Refused(Refusal::SuiteNotListed);
     }
     let n = suite.steps as usize;
-    runs::run_ahead(suite.cipher_of(), 0, n, true, key, tweaks, blocks);
+    crate::many::all(true, suite.cipher_of(), n, key, tweaks, blocks);
     Answer::Done
 }
 
@@ -30,6 +30,6 @@ pub fn decipher_blocks(suite: Suite, key: [u8; 16], tweaks: &[u8], blocks: &mut 
         return Answer::Refused(Refusal::SuiteNotListed);
     }
     let n = suite.steps as usize;
-    runs::run_back(suite.cipher_of(), 0, n, true, key, tweaks, blocks);
+    crate::many::all(false, suite.cipher_of(), n, key, tweaks, blocks);
     Answer::Done
 }

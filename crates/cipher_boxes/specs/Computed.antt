@@ -1,13 +1,17 @@
--- What the ciphers compute: their own layers, by the definitions of enciphering and deciphering.
+-- What the ciphers compute: their own layers, by the definitions of enciphering and deciphering. And what their boxes on planes compute.
 use mathlib.Core.List.{List, [], _∷_}
 use Prim.Native.Nat.{ℕ}
 use lib.ListN.{getD}
+use Rattle.bits.specs.Bit.{bit}
+use Rattle.bits.specs.Table.{tab}
 use Rattle.sbox.specs.Sbox
 use Rattle.lbox.specs.Lbox
 use Rattle.printed.specs.declared.Half.{Half}
 use Rattle.printed.specs.Rule.{inHalf, halfOf, Rule, product, equations, rule}
 use Rattle.made_tables.specs.declared.Boxes.{Boxes}
 use Rattle.made_tables.specs.declared.Boxes.the-variants as box
+use Rattle.planes.specs.Planes.{rowAt}
+use Rattle.plane_lbox.specs.Network.{timesAt}
 use Rattle.rounds.specs.declared.Cipher.{Cipher}
 use Rattle.rounds.specs.declared.Cipher.the-variants.{Scream, IScream}
 use Rattle.rounds.specs.Cipher.{parts}
@@ -46,3 +50,19 @@ computedBy k d (equations e) b = sboxEntry k d b
 
 abbrev pub computed : Cipher → Direction → ℕ → ℕ → ℕ
 computed k d p b = computedBy k d (rule p) b
+
+-- what the circuit on planes makes of the byte b, alone in column 0, that is in the first state
+unfoldable pub planeSboxEntry : Cipher → Direction → ℕ → ℕ
+planeSboxEntry k d b = Sbox.column (Sbox.layerAt 64 (sboxIn k d) (Sbox.alone b)) 0
+
+-- what the network makes of the byte b in a half of a row, whose bits stand in the first state's place of sixteen planes
+unfoldable pub planeLboxEntry : Cipher → Direction → Half → Half → ℕ → ℕ
+planeLboxEntry k d from to b = halfOf to (rowAt (timesAt 64 (lboxIn k d) (tab 16 (bit (inHalf from b)))) 0)
+
+-- the entry of the table at a place, as the boxes on planes give it
+abbrev pub planesComputedBy : Cipher → Direction → Rule → ℕ → ℕ
+planesComputedBy k d (product m from to) b = planeLboxEntry k d from to b
+planesComputedBy k d (equations e) b = planeSboxEntry k d b
+
+abbrev pub planesComputed : Cipher → Direction → ℕ → ℕ → ℕ
+planesComputed k d p b = planesComputedBy k d (rule p) b

@@ -9,15 +9,19 @@ use Rattle.lbox.specs.Lbox
 use Rattle.printed.specs.Printed.{tables, table, entry}
 use Rattle.printed.specs.Rule.{made, rule}
 use Rattle.made_tables.specs.Boxes.{boxesOf, lboxPlace, sboxPlace}
+use Rattle.planes.specs.Planes.{rowAt}
+use Rattle.plane_lbox.specs.Network.{timesAt}
 use Rattle.rounds.specs.declared.Cipher.{Cipher}
 use Rattle.cipher_boxes.specs.declared.Direction.{Direction}
-use Rattle.cipher_boxes.specs.Computed.{sboxIn, lboxIn, boxesIn, computed}
+use Rattle.cipher_boxes.specs.Computed.{sboxIn, lboxIn, boxesIn, computed, planesComputed}
 
 -- "What it makes must equal 000's tables and the cipher's own S-boxes and L-boxes", at the place p and the byte b; the cipher's are those of
 -- each cipher and direction that the table is for
 pub record SameEntry (p b : ℕ) : Type 0 where
   pub by-rule : made (rule p) b ≡ entry p b
   pub by-layers : (k : Cipher) (d : Direction) → boxesIn k d ≡ boxesOf p → computed k d p b ≡ entry p b
+  -- and so by the boxes on planes
+  pub on-planes : (k : Cipher) (d : Direction) → boxesIn k d ≡ boxesOf p → planesComputed k d p b ≡ entry p b
 
 -- a cipher and a direction that the table at the place p is for
 pub record Served (p : ℕ) : Type 0 where
@@ -46,3 +50,8 @@ pub record TableLaw : Type 0 where
       → Sbox.column (Sbox.layer (sboxIn k d) w) j ≡ entry (sboxPlace (boxesIn k d)) (Sbox.column w j)
   pub rows : (k : Cipher) (d : Direction) (w : List ℕ) (i : ℕ) → i < 8 → getD w i 0 < 2 ^ 16
       → getD (Lbox.layer (lboxIn k d) w) i 0 ≡ byFour (lboxPlace (boxesIn k d)) (getD w i 0)
+  -- and at every column and every row that planes of sixty-four states hold
+  pub plane-columns : (k : Cipher) (d : Direction) (w : List ℕ) (j : ℕ) → j < 64
+      → Sbox.column (Sbox.layerAt 64 (sboxIn k d) w) j ≡ entry (sboxPlace (boxesIn k d)) (Sbox.column w j)
+  pub plane-rows : (k : Cipher) (d : Direction) (r : List ℕ) (b : ℕ) → b < 64
+      → rowAt (timesAt 64 (lboxIn k d) r) b ≡ byFour (lboxPlace (boxesIn k d)) (rowAt r b)

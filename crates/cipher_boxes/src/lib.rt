@@ -1,5 +1,9 @@
 // The entries of the tables as the ciphers themselves compute them: by the layers that enciphering and deciphering call, lent the
-// tables that those are lent. specs/TableLaw says that these are the paper's entries, and the made ones.
+// tables that those are lent. specs/TableLaw says that these are the paper's entries, and the made ones. So it does of those in on_planes, by
+// the boxes on planes, and of those in masked, by masks.
+pub mod masked;
+pub mod on_planes;
+
 use printed::Half;
 use rounds::Cipher;
 ghost use mathlib.Core.Path.{_≡_};

@@ -45,7 +45,7 @@ fn hand_out(text: &[u8], out: &mut [u8]) -> FetchAnswer
         return FetchAnswer::Refused(Refusal::OutputTooShort);
     }
     let s = fields::field::pair(text[0], text[1]);
-    sums::copy(&text[2..], out);
+    blockwise::copy(&text[2..], out);
     FetchAnswer::Fetched(s, m - 2 - s)
 }
 

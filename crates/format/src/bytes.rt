@@ -12,8 +12,8 @@ pub fn join(a: &[u8], b: &[u8], out: &mut [u8])
         ++ (now (b .entry) ++ drop (length (now (a .entry)) + length (now (b .entry))) (now (out .entry))) ⌝ }
 {
     let n = a.len();
-    sums::copy(a, out);
-    sums::copy(b, &mut out[n..]);
+    blockwise::copy(a, out);
+    blockwise::copy(b, &mut out[n..]);
 }
 
 // A number in w bytes and a string behind it, at the start of an output; for our own crates, which know that it has room for both.
@@ -23,5 +23,5 @@ pub fn number_then(n: u64, w: usize, s: &[u8], out: &mut [u8])
         ++ drop (w + length (now (s .entry))) (now (out .entry)) ⌝ }
 {
     fields::number::put(n, &mut out[..w]);
-    sums::copy(s, &mut out[w..]);
+    blockwise::copy(s, &mut out[w..]);
 }

@@ -51,7 +51,7 @@ fn put_header(tag: u8, n: u64, w: usize, more: &[u8], out: &mut [u8])
         ++ drop (3 + (w + length (now (more .entry)))) (now (out .entry)) ⌝ }
 {
     let head = fields::field::head(tag, w + more.len());
-    sums::copy(&head, out);
+    blockwise::copy(&head, out);
     crate::bytes::number_then(n, w, more, &mut out[3..]);
 }
 
@@ -65,7 +65,7 @@ fn along_of(suite: Suite, number: u64, tag: u8, n: u64, w: usize, more: &[u8]) -
     let front = opening(suite, number);
     let len = 19 + (w + more.len());
     let mut bytes = [0u8; 48];
-    sums::copy(&front, &mut bytes);
+    blockwise::copy(&front, &mut bytes);
     put_header(tag, n, w, more, &mut bytes[16..]);
     Along { bytes, len }
 }

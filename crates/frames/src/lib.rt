@@ -35,7 +35,7 @@ fn put_text(source: &[u8], target: &[u8], out: &mut [u8])
     let s = source.len();
     let n = 2 + s;
     format::bytes::number_then(s as u64, 2, source, out);
-    sums::copy(target, &mut out[n..]);
+    blockwise::copy(target, &mut out[n..]);
 }
 
 // The tag that stands there, as field 12.
@@ -45,7 +45,7 @@ fn put_tag(out: &mut [u8])
 {
     let tag = blockwise::block_at(out, 0);
     let head = fields::field::head(0x12, 16);
-    sums::copy(&head, out);
+    blockwise::copy(&head, out);
     blockwise::put_at(out, 3, tag);
 }
 
@@ -92,7 +92,7 @@ fn put_sealed(
     let m = 2 + (source.len() + target.len());
     put_text(source, target, &mut out[3..]);
     let head = fields::field::head(0x11, m);
-    sums::copy(&head, out);
+    blockwise::copy(&head, out);
     seal_here(suite, key, nonce, header, m, &mut out[3..])
 }
 
@@ -123,7 +123,7 @@ pub fn put_unit(
     let bytes = along.bytes;
     let len = along.len;
     let h = kind.header_len();
-    sums::copy(&bytes[16..len], out);
+    blockwise::copy(&bytes[16..len], out);
     put_sealed(
         suite,
         key,
@@ -157,6 +157,6 @@ pub fn put_close(
     let bytes = along.bytes;
     let len = along.len;
     let h = kind.close_header_len();
-    sums::copy(&bytes[16..len], out);
+    blockwise::copy(&bytes[16..len], out);
     seal_here(suite, key, &last, &bytes[..len], 0, &mut out[h..])
 }

@@ -31,7 +31,7 @@ block-copied k h z room i l =
     block-append (take (16 * k) h) z i (omega arith) ∙ block-taken k h room i l
 
 -- the sum of blocks that are strung
-sum-strung : (sum : List ℕ) (k : ℕ) (g : ℕ → List ℕ) (rest x : List ℕ) → ((i : ℕ) → i < k → length (g i) ≡ 16) → x ≡ strung k g ++ rest
+pub sum-strung : (sum : List ℕ) (k : ℕ) (g : ℕ → List ℕ) (rest x : List ℕ) → ((i : ℕ) → i < k → length (g i) ≡ 16) → x ≡ strung k g ++ rest
     → sumFrom sum (length (take (16 * k) x) / 16) (block (take (16 * k) x)) ≡ sumFrom sum k g
 sum-strung sum k g rest x long e =
     let l : length (strung k g) ≡ 16 * k = strung-whole k g long in

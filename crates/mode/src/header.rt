@@ -33,7 +33,7 @@ fn chunk(
     let mut blocks = [0u8; 1024];
     let end = 16 * k;
     tweak::header_tweaks(nonce, first, k, &mut tweaks);
-    sums::copy(&header[..end], &mut blocks);
+    blockwise::copy(&header[..end], &mut blocks);
     cipher::blocks::encipher_blocks(suite, key, &tweaks[..end], &mut blocks);
     sums::add_blocks(sum, &blocks[..end])
 }

@@ -1,19 +1,13 @@
--- The text in its two parts: the first window, and what follows it.
+-- The first window of a text, and what `open` answers.
 use mathlib.Core.Path.{_≡_, sym, ap, _∙_}
 use mathlib.Core.Bool.{Bool, true, false}
 use mathlib.Core.List.{List, _++_}
-use Prim.Native.Nat.{ℕ, _+_, _-_, _*_, _%_, _^_, _≤_, min}
-use native.Mathlib.Nat.{zero-add}
+use Prim.Native.Nat.{ℕ, _-_, _*_, _%_, _^_, _≤_, min}
 use native.Mathlib.Omega.{arith}
 use lib.ListN.{length, take, drop, length-append, length-drop}
-use lib.Seq.{take-all, take-at, length-take-le}
-use Rattle.calls.specs.Pieces.{piece, through}
+use lib.Seq.{take-all, take-at}
 use Rattle.calls.specs.Sealing.{openingTag}
-use Rattle.calls.specs.Tweak.{blocksOf}
 use Rattle.calls.proofs.ByBlocks.{opening-is, length-through}
-use Rattle.blockwise.proofs.Each.{block-later, block-taken, strung-add}
-use Rattle.calls.proofs.Strung.{strung-ext}
-use Rattle.blockwise.specs.Blocks.{block, strung}
 use Rattle.suites.specs.declared.refusal.Answer.the-variants.{Done, Refused}
 use Rattle.suites.specs.declared.refusal.Refusal.the-variants.{TagDiffers}
 use Rattle.suites.specs.declared.suite.Suite.{Suite}
@@ -25,22 +19,6 @@ use Rattle.opening.specs.Open.{ciphertext, opened, agrees, thenTag, Comp
 use Rattle.sealing.specs.Passes.{textOf, textPart}
 use Rattle.sealing.specs.Seal.{written}
 use Rattle.passes.proofs.Windows.{text, text-long, part-of-rest}
-
-module _ (f e : List ℕ → List ℕ → List ℕ) (nonce : List ℕ) (m : ℕ) (c : List ℕ) (k : ℕ) (room : 16 * k ≤ length c) where
-  pub through-split : through f e nonce m 0 c ≡ through f e nonce m 0 (take (16 * k) c) ++ through f e nonce m k (drop (16 * k) c)
-  unfolding through
-  through-split =
-      let g : ℕ → List ℕ = λ i. piece f e nonce m (0 + i) (block c i) in
-      let rest = blocksOf (length (drop (16 * k) c)) in
-      let parts : blocksOf (length c) ≡ k + rest = omega (arith, length-drop (16 * k) c) in
-      let front : k ≡ blocksOf (length (take (16 * k) c)) = omega (arith, length-take-le (16 * k) c room) in
-      ap (λ (n : ℕ). strung n g) parts
-      ∙ strung-add k rest g
-      ∙ (λ j.
-      (strung-ext k g (λ i. piece f e nonce m (0 + i) (block (take (16 * k) c) i)) (λ i h. ap (piece f e nonce m (0 + i)) (sym (block-taken k c room i h)))
-      ∙ ap (λ (n : ℕ). strung n (λ i. piece f e nonce m (0 + i) (block (take (16 * k) c) i))) front)
-      j
-      ++ strung rest (λ i. piece f e nonce m (zero-add (k + i) j) (sym (block-later k i c) j)))
 
 -- what the first window leaves in `work`
 pub work-kept : (m : ℕ) (t w : List ℕ) → length t ≡ min m (length w) → length (t ++ drop (min m (length w)) w) ≡ length w

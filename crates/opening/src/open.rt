@@ -28,10 +28,11 @@ fn hand_out(suite: Suite, key: [u8; 16], nonce: &[u8], c: &[u8], work: &[u8], ou
 {
     let m = c.len();
     let n = sealing::counts::lesser(m, work.len());
-    sums::copy(&work[..n], out);
+    blockwise::copy(&work[..n], out);
     if n < m {
         let next = TextBlock::start().after(n / 16);
-        passes::window(suite, key, nonce, c, next, &mut out[n..m]);
+        let pad = text_blocks::pad(suite, key, nonce, m, text_blocks::last_bytes(m));
+        passes::window(suite, key, nonce, c, next, pad, &mut out[n..m]);
     }
 }
 

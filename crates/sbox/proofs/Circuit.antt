@@ -1,4 +1,4 @@
--- Bit equations at two widths: at 16 bits they are the code on rows, at 1 bit the same on one column.
+-- Bit equations at two widths: at k bits they are the code on rows of k columns, at 1 bit the same on one column.
 use mathlib.Core.Path.{_≡_, refl, sym, ap, _∙_}
 use mathlib.Core.Bool.{Bool}
 use mathlib.Core.List.{List, [], _∷_, map}
@@ -12,7 +12,7 @@ use Rattle.bits.specs.Table.{tab}
 use Rattle.bits.proofs.Bits.{bit-lt, bit-ext, bit-and, bit-or, bit-xor, bit-not, bit-of-zero, bit-gather, gather-lt}
 use Rattle.bits.proofs.Lists.{tab-ext}
 use Rattle.bits.proofs.Tests.{all, all-at}
-use Rattle.sbox.specs.Sbox.{column, layer}
+use Rattle.sbox.specs.Sbox.{column, layer, layerAt}
 use Rattle.sbox.specs.Circuit.{Expr, reg, xor, and, or, not, Instruction, put, eval, run, start, outcome}
 
 -- each register fits k bits
@@ -44,20 +44,20 @@ map-set f (x ∷ w) zero v = refl
 map-set f (x ∷ w) (suc d) v = ap (λ (l : List ℕ). f x ∷ l) (map-set f w d v)
 
 -- bit j of what a circuit gives is what the circuit gives of the bits j
-module _ (j : ℕ) (hj : j < 16) where
-  bits-eval : {w : List ℕ} (e : Expr) → Fit 16 w → bit (eval 16 e w) j ≡ eval 1 e (map (λ x. bit x j) w)
+module _ (k j : ℕ) (hj : j < k) where
+  bits-eval : {w : List ℕ} (e : Expr) → Fit k w → bit (eval k e w) j ≡ eval 1 e (map (λ x. bit x j) w)
   bits-eval {w} (reg i) f =
       sym (List·getD-map (λ x. bit x j) w i 0) ∙ ap (getD (map (λ x. bit x j) w) i) (bit-of-zero j)
-  bits-eval {w} (xor a b) f = bit-xor (eval 16 a w) (eval 16 b w) j ∙ cc (bits-eval a f, bits-eval b f)
-  bits-eval {w} (and a b) f = bit-and (eval 16 a w) (eval 16 b w) j ∙ cc (bits-eval a f, bits-eval b f)
-  bits-eval {w} (or a b) f = bit-or (eval 16 a w) (eval 16 b w) j ∙ cc (bits-eval a f, bits-eval b f)
-  bits-eval {w} (not a) f = bit-not 16 (eval 16 a w) j (eval-fit a f) hj ∙ ap (λ (n : ℕ). 1 - n) (bits-eval a f)
+  bits-eval {w} (xor a b) f = bit-xor (eval k a w) (eval k b w) j ∙ cc (bits-eval a f, bits-eval b f)
+  bits-eval {w} (and a b) f = bit-and (eval k a w) (eval k b w) j ∙ cc (bits-eval a f, bits-eval b f)
+  bits-eval {w} (or a b) f = bit-or (eval k a w) (eval k b w) j ∙ cc (bits-eval a f, bits-eval b f)
+  bits-eval {w} (not a) f = bit-not k (eval k a w) j (eval-fit a f) hj ∙ ap (λ (n : ℕ). 1 - n) (bits-eval a f)
 
-  bits-run : {w : List ℕ} (p : List Instruction) → Fit 16 w → map (λ x. bit x j) (run 16 p w) ≡ run 1 p (map (λ x. bit x j) w)
+  bits-run : {w : List ℕ} (p : List Instruction) → Fit k w → map (λ x. bit x j) (run k p w) ≡ run 1 p (map (λ x. bit x j) w)
   bits-run [] f = refl
   bits-run {w} (put d e ∷ p) f =
-      bits-run {w = set w d (eval 16 e w)} p (record { at = set-at 16 w d (eval 16 e w) (eval-fit e f) (f .at) })
-      ∙ ap (run 1 p) (map-set (λ x. bit x j) w d (eval 16 e w) ∙ ap (set (map (λ x. bit x j) w) d) (bits-eval e f))
+      bits-run {w = set w d (eval k e w)} p (record { at = set-at k w d (eval k e w) (eval-fit e f) (f .at) })
+      ∙ ap (run 1 p) (map-set (λ x. bit x j) w d (eval k e w) ∙ ap (set (map (λ x. bit x j) w) d) (bits-eval e f))
 
 -- the circuit gives the table's entry at each of the 256 columns
 abbrev pub right : List Instruction → List ℕ → Bool
@@ -109,33 +109,39 @@ column-bits w j = λ k.
     ∷ bit-of-zero j k
     ∷ []
 
-module _ (t : List ℕ) (p : List Instruction) (test : T (right p t)) (w : List ℕ) (words : (i : ℕ) → getD w i 0 < 2 ^ 16) where
-  fit : Fit 16 (start (λ i. getD w i 0))
-  fit = start-fit (λ i. getD w i 0) 16 words
+module _ (k : ℕ) (t : List ℕ) (p : List Instruction) (test : T (right p t)) (w : List ℕ) (words : (i : ℕ) → getD w i 0 < 2 ^ k) where
+  fit : Fit k (start (λ i. getD w i 0))
+  fit = start-fit (λ i. getD w i 0) k words
 
-  bit-is : (i : ℕ) → i < 8 → (j : ℕ) → j < 16 → bit (getD t (column w j) 0) i ≡ bit (getD (run 16 p (start (λ i. getD w i 0))) i 0) j
+  bit-is : (i : ℕ) → i < 8 → (j : ℕ) → j < k → bit (getD t (column w j) 0) i ≡ bit (getD (run k p (start (λ i. getD w i 0))) i 0) j
   bit-is i hi j hj =
       let c : ℕ = column w j in
       let from : List ℕ = start (λ i. getD w i 0) in
       ap (λ (x : ℕ). bit x i) (sym (eqb→eq (outcome p c) (getD t c 0) (all-at 256 (λ c. eqb (outcome p c) (getD t c 0)) test c (column-lt w j))))
       ∙ bit-gather 8 (λ i. getD (run 1 p (start (bit c))) i 0) (run-fit {k = 1} {w = start (bit c)} p (start-fit (bit c) 1 (bit-lt c)) .at) i hi
       ∙ ap (λ (l : List ℕ). getD (run 1 p l) i 0) (sym (column-bits w j))
-      ∙ ap (λ (l : List ℕ). getD l i 0) (sym (bits-run j hj p fit))
-      ∙ ap (getD (map (λ x. bit x j) (run 16 p from)) i) (sym (bit-of-zero j))
-      ∙ List·getD-map (λ x. bit x j) (run 16 p from) i 0
+      ∙ ap (λ (l : List ℕ). getD l i 0) (sym (bits-run k j hj p fit))
+      ∙ ap (getD (map (λ x. bit x j) (run k p from)) i) (sym (bit-of-zero j))
+      ∙ List·getD-map (λ x. bit x j) (run k p from) i 0
 
-  row-is : (i : ℕ) → i < 8 → gather 16 (λ j. bit (getD t (column w j) 0) i) ≡ getD (run 16 p (start (λ i. getD w i 0))) i 0
+  row-is : (i : ℕ) → i < 8 → gather k (λ j. bit (getD t (column w j) 0) i) ≡ getD (run k p (start (λ i. getD w i 0))) i 0
   row-is i hi =
-      bit-ext 16
-      (gather-lt 16 (λ j. bit (getD t (column w j) 0) i) (λ j. bit-lt (getD t (column w j) 0) i))
-      (run-fit {k = 16} {w = start (λ i. getD w i 0)} p fit .at i)
-      (λ j hj. bit-gather 16 (λ j. bit (getD t (column w j) 0) i) (λ j. bit-lt (getD t (column w j) 0) i) j hj ∙ bit-is i hi j hj)
+      bit-ext k
+      (gather-lt k (λ j. bit (getD t (column w j) 0) i) (λ j. bit-lt (getD t (column w j) 0) i))
+      (run-fit {k = k} {w = start (λ i. getD w i 0)} p fit .at i)
+      (λ j hj. bit-gather k (λ j. bit (getD t (column w j) 0) i) (λ j. bit-lt (getD t (column w j) 0) i) j hj ∙ bit-is i hi j hj)
 
--- A circuit that passes the test is the S-box layer, whatever the rows.
+-- A circuit that passes the test is the S-box layer, on any number of columns and whatever the rows.
+pub circuit-at : (k : ℕ) (t : List ℕ) (p : List Instruction) → T (right p t) → (w : List ℕ) → ((i : ℕ) → getD w i 0 < 2 ^ k)
+    → tab 8 (λ i. getD (run k p (start (λ i. getD w i 0))) i 0) ≡ layerAt k t w
+unfolding layerAt
+circuit-at k t p test w words =
+    sym
+    (tab-ext 8 (λ i. gather k (λ j. bit (getD t (column w j) 0) i)) (λ i. getD (run k p (start (λ i. getD w i 0))) i 0)
+    (row-is k t p test w words))
+
+-- the same on the sixteen columns of a state
 pub circuit-is : (t : List ℕ) (p : List Instruction) → T (right p t) → (w : List ℕ) → ((i : ℕ) → getD w i 0 < 2 ^ 16)
     → tab 8 (λ i. getD (run 16 p (start (λ i. getD w i 0))) i 0) ≡ layer t w
-unfolding layer
-circuit-is t p test w words =
-    sym
-    (tab-ext 8 (λ i. gather 16 (λ j. bit (getD t (column w j) 0) i)) (λ i. getD (run 16 p (start (λ i. getD w i 0))) i 0)
-    (row-is t p test w words))
+unfolding layer layerAt
+circuit-is = circuit-at 16

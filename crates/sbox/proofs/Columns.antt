@@ -8,7 +8,7 @@ use Rattle.bits.proofs.Bits.{bit-lt, bit-zero, gather-ext, gather-bit}
 use Rattle.bits.proofs.Lists.{getD-tab}
 use Rattle.sbox.specs.Sbox.{alone, column}
 
-first-bit : (b i : ℕ) → bit (bit b i) 0 ≡ bit b i
+pub first-bit : (b i : ℕ) → bit (bit b i) 0 ≡ bit b i
 first-bit b i = omega (arith, bit-zero (bit b i), bit-lt b i)
 
 pub alone-column : (b : ℕ) → b < 256 → column (alone b) 0 ≡ b

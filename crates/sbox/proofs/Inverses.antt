@@ -20,19 +20,25 @@ sbox-rows t w =
     tab-rows (λ i. gather 16 (λ j. bit (getD t (Sbox.column w j) 0) i))
     (λ i. gather-lt 16 (λ j. bit (getD t (Sbox.column w j) 0) i) (λ j. bit-lt (getD t (Sbox.column w j) 0) i))
 
-module _ (t : List ℕ) (w : List ℕ) (j : ℕ) (hj : j < 16) where
-  layer-bit : (i : ℕ) → i < 8 → bit (getD (Sbox.layer t w) i 0) j ≡ bit (getD t (Sbox.column w j) 0) i
-  unfolding Sbox.layer
-  layer-bit i hi =
-      ap (λ (x : ℕ). bit x j) (getD-tab 8 (λ i. gather 16 (λ j. bit (getD t (Sbox.column w j) 0) i)) i hi)
-      ∙ bit-gather 16 (λ j. bit (getD t (Sbox.column w j) 0) i) (λ j. bit-lt (getD t (Sbox.column w j) 0) i) j hj
+-- a bit of the layer is that of its column's entry, however many columns there are
+pub layer-bit : (k : ℕ) (t w : List ℕ) (j : ℕ) → j < k → (i : ℕ) → i < 8 → bit (getD (Sbox.layerAt k t w) i 0) j ≡ bit (getD t (Sbox.column w j) 0) i
+unfolding Sbox.layerAt
+layer-bit k t w j hj i hi =
+    ap (λ (x : ℕ). bit x j) (getD-tab 8 (λ i. gather k (λ j. bit (getD t (Sbox.column w j) 0) i)) i hi)
+    ∙ bit-gather k (λ j. bit (getD t (Sbox.column w j) 0) i) (λ j. bit-lt (getD t (Sbox.column w j) 0) i) j hj
 
-  -- a column goes through the S-box
-  pub column-layer : getD t (Sbox.column w j) 0 < 256 → Sbox.column (Sbox.layer t w) j ≡ getD t (Sbox.column w j) 0
-  unfolding Sbox.column
-  column-layer h =
-      gather-ext 8 (λ i. bit (getD (Sbox.layer t w) i 0) j) (bit (getD t (Sbox.column w j) 0)) layer-bit
-      ∙ gather-bit 8 (getD t (Sbox.column w j) 0) h
+-- a column goes through the S-box, however many columns there are
+pub column-layer-at : (k : ℕ) (t w : List ℕ) (j : ℕ) → j < k → getD t (Sbox.column w j) 0 < 256
+    → Sbox.column (Sbox.layerAt k t w) j ≡ getD t (Sbox.column w j) 0
+unfolding Sbox.column
+column-layer-at k t w j hj h =
+    gather-ext 8 (λ i. bit (getD (Sbox.layerAt k t w) i 0) j) (bit (getD t (Sbox.column w j) 0)) (layer-bit k t w j hj)
+    ∙ gather-bit 8 (getD t (Sbox.column w j) 0) h
+
+-- a column goes through the S-box
+pub column-layer : (t w : List ℕ) (j : ℕ) → j < 16 → getD t (Sbox.column w j) 0 < 256 → Sbox.column (Sbox.layer t w) j ≡ getD t (Sbox.column w j) 0
+unfolding Sbox.layer Sbox.layerAt
+column-layer = column-layer-at 16
 
 -- the table u takes each entry of the table t back to its column
 abbrev pub back : List ℕ → List ℕ → Bool

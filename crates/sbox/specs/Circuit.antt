@@ -1,4 +1,4 @@
--- Bit equations: lists of bitwise operations on registers. At a width of 16 bits they go over rows, at one bit over one column.
+-- Bit equations: lists of bitwise operations on registers. At a width of k bits they go over rows of k columns, at one bit over one column.
 use mathlib.Core.List.{List, [], _∷_}
 use Prim.Native.Nat.{ℕ, _-_, _^_}
 use lib.Bits.{bitAnd, bitOr, bitXor}

@@ -17,6 +17,10 @@ alone b = tab 8 (bit b)
 unfoldable pub layer : List ℕ → List ℕ → List ℕ
 layer t w = tab 8 (λ i. gather 16 (λ j. bit (getD t (column w j) 0) i))
 
+-- the same on k columns; at 16 it is the layer
+unfoldable pub layerAt : ℕ → List ℕ → List ℕ → List ℕ
+layerAt k t w = tab 8 (λ i. gather k (λ j. bit (getD t (column w j) 0) i))
+
 -- Table 6: Scream's S-box; at 55 and C6 the text has `DO` and `OD` for D0 and 0D
 unfoldable pub scream : List ℕ
 scream =

@@ -1,12 +1,12 @@
 -- The sealed bytes as they are written, and the answers of `seal` and `seal_in_place`.
 use mathlib.Core.Path.{_≡_, sym, ap, _∙_}
-use mathlib.Core.List.{List, _++_}
+use mathlib.Core.List.{List, _++_, append-assoc}
 use mathlib.Core.Logic.{inl}
-use Prim.Native.Nat.{ℕ, _+_, _^_, _≤_}
+use Prim.Native.Nat.{ℕ, _+_, _-_, _*_, _^_, _≤_}
 use native.Mathlib.Nat.{le-of-eq, le-trans}
 use native.Mathlib.Omega.{arith}
-use lib.ListN.{length, drop, replicate}
-use lib.Seq.{paste, take-all, take-at, drop-at, drop-drop}
+use lib.ListN.{length, take, drop, replicate}
+use lib.Seq.{paste, take-all, take-at, take-add, take-take, drop-at, drop-drop, length-take-le}
 use Rattle.calls.specs.Calls.{filled, checksum, calls}
 use Rattle.calls.specs.Pieces.{through, headerSum, tagFrom}
 use Rattle.calls.specs.Tweak.{blocksOf}
@@ -22,19 +22,47 @@ use Rattle.sums.specs.Sums.{sumFrom}
 use Rattle.text_blocks.specs.Text.{Part}
 use Rattle.text_blocks.specs.Under.{enciphers, deciphers}
 use Rattle.text_blocks.proofs.Chunks.{enciphers-blockwise}
+use Rattle.text_blocks.proofs.Parts.{through-split}
 use Rattle.sums.proofs.Sums.{sum-of}
 use Rattle.blockwise.specs.Blocks.{block}
 use Rattle.sealing.specs.Passes.{Passable}
 use Rattle.sealing.specs.Seal.{sealed, written, sealReport}
 use Rattle.sealing.specs.declared.seal.SealAnswer.the-variants.{Sealed, Refused as SealRefused}
 
--- the whole of a text
-pub whole-text : (m n : ℕ) → n ≡ m → m ≤ 2 ^ 24 → Part m 0 n
-whole-text m n e h = record { small = h; within = omega arith; whole = inl (omega arith) }
+-- the rest of a text
+pub rest-part : (m first n : ℕ) → m ≤ 2 ^ 24 → 16 * first + n ≡ m → Part m first n
+rest-part m first n small end = record { small = small; within = omega arith; whole = inl end }
 
 pub checksum-is : (t : List ℕ) → sumFrom (replicate 16 0) (blocksOf (length t)) (λ i. filled 0 (block t i)) ≡ checksum t
 unfolding checksum
 checksum-is t = sum-of (blocksOf (length t)) (λ i. filled 0 (block t i))
+
+-- a text at the output's start, whose first n bytes, whole blocks, have become x
+module _ (m n : ℕ) (out x : List ℕ) (within : n ≤ m) (room : m ≤ length out) (long : length x ≡ n) where
+  ends : n + (m - n) ≡ m
+  ends = omega arith
+
+  -- the others are as they were
+  pub second-is : take (m - n) (drop n (x ++ drop n out)) ≡ drop n (take m out)
+  second-is =
+      ap (take (m - n)) (drop-at x (drop n out) n long)
+      ∙ sym (drop-at (take n out) (take (m - n) (drop n out)) n (length-take-le n out (omega arith)))
+      ∙ ap (drop n) (sym (take-add n (m - n) out) ∙ ap (λ (k : ℕ). take k out) ends)
+
+  -- and become y
+  pub through-parts : (f e : List ℕ → List ℕ → List ℕ) (nonce : List ℕ) (k : ℕ) → n ≡ 16 * k → (y : List ℕ)
+      → x ≡ through f e nonce m 0 (take n out) → y ≡ through f e nonce m k (drop n (take m out))
+      → take n (x ++ drop n out) ++ (y ++ drop (m - n) (drop n (x ++ drop n out))) ≡ through f e nonce m 0 (take m out) ++ drop m out
+  through-parts f e nonce k blocks y ex ey =
+      let t = take m out in
+      let rest = drop n out in
+      let behind : drop (m - n) (drop n (x ++ rest)) ≡ drop m out =
+      ap (drop (m - n)) (drop-at x rest n long) ∙ drop-drop (m - n) n out ∙ ap (λ (j : ℕ). drop j out) ends in
+      let whole : x ++ y ≡ through f e nonce m 0 t =
+      (λ j. (ex ∙ ap (through f e nonce m 0) (sym (take-take n m out within))) j ++ ey j)
+      ∙ ap (λ (j : ℕ). through f e nonce m 0 (take j t) ++ through f e nonce m k (drop j t)) blocks
+      ∙ sym (through-split f e nonce m t k (omega (arith, length-take-le m out room))) in
+      (λ j. take-at x rest n long j ++ (y ++ behind j)) ∙ sym (append-assoc x y (drop m out)) ∙ ap (λ (z : List ℕ). z ++ drop m out) whole
 
 -- a ciphertext takes the place of a text at the output's start, and a tag is put behind it
 tagged : (m : ℕ) (out x g : List ℕ) → length x ≡ m → length g ≡ 16 → paste (x ++ drop m out) m g 16 ≡ x ++ g ++ drop (m + 16) out

@@ -5,7 +5,7 @@ use suites::refusal::Refusal;
 use suites::suite::Suite;
 ghost use mathlib.Core.Path.{_≡_};
 ghost use mathlib.Core.List.{_++_};
-ghost use Prim.Native.Nat.{_+_, _^_, _≤_};
+ghost use Prim.Native.Nat.{_+_, _-_, _%_, _^_, _≤_};
 ghost use lib.ListN.{length, take, drop};
 ghost use Rattle.sealing.specs.Passes.{Passable};
 ghost use Rattle.sealing.specs.Seal.{sealed, sealAnswer, sealBuffer, inPlaceAnswer, inPlaceBuffer};
@@ -14,6 +14,18 @@ ghost use Rattle.sealing.specs.Seal.{sealed, sealAnswer, sealBuffer, inP
 pub enum SealAnswer {
     Sealed(usize, usize),
     Refused(Refusal),
+}
+
+// How many of m bytes stand before the last 1 to 1024: whole groups of 64 blocks; none where m is 0.
+fn front(m: usize) -> usize
+    ensures { λ r. ⌜ (r % 1024 ≡ 0)
+        × (r ≤ m - 1)
+        × (m ≤ r + 1024) ⌝ }
+{
+    if m == 0 {
+        return 0;
+    }
+    1024 * ((m - 1) / 1024)
 }
 
 // The sealed bytes of the first m bytes of the output, in their place.
@@ -27,9 +39,18 @@ fn seal_there(suite: Suite, key: [u8; 16], nonce: &[u8], header: &[u8], m: usize
 {
     let checksum = sums::add_all([0u8; 16], &out[..m]);
     let start = TextBlock::start();
-    text_blocks::through(true, suite, key, nonce, m, start, &mut out[..m]);
-    let sum = mode::header::sum(suite, key, nonce, header);
-    let tag = mode::tag::make(suite, key, nonce, m, checksum, sum);
+    let n = front(m);
+    text_blocks::blocks(true, suite, key, nonce, start, &mut out[..n]);
+    let tag = batch::sealing::rest(
+        suite,
+        key,
+        nonce,
+        header,
+        m,
+        checksum,
+        start.after(n / 16),
+        &mut out[n..m],
+    );
     blockwise::put_at(out, m, tag);
 }
 
@@ -49,7 +70,7 @@ fn write_sealed(
         ≡ sealed (suite .cipher) (suite .steps) key (now (nonce .entry)) (now (header .entry)) (now (text .entry))
         ++ drop (length (now (text .entry)) + 16) (now (out .entry)) ⌝ }
 {
-    sums::copy(text, out);
+    blockwise::copy(text, out);
     seal_there(suite, key, nonce, header, text.len(), out);
 }
 

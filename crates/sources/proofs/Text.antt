@@ -13,7 +13,7 @@ use Rattle.text_blocks.specs.Text.{Part}
 use Rattle.text_blocks.specs.Under.{enciphers, deciphers}
 use Rattle.text_blocks.proofs.Chunks.{enciphers-blockwise, deciphers-blockwise}
 use Rattle.sealing.specs.Passes.{textOf, textPart}
-use Rattle.opening.proofs.Opened.{through-split}
+use Rattle.text_blocks.proofs.Parts.{through-split}
 use Rattle.verifying.proofs.Windows.{window-front}
 use Rattle.fields.specs.Unit.{sourceLength}
 use Rattle.seals.proofs.Verified.{stated}

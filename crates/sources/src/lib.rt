@@ -26,11 +26,20 @@ fn text_start(suite: Suite, key: [u8; 16], nonce: &[u8], c: &[u8], work: &mut [u
     let m = c.len();
     let first = sealing::counts::lesser(m, 16);
     let start = TextBlock::start();
-    passes::window(suite, key, nonce, c, start, &mut work[..first]);
+    let pad = text_blocks::pad(suite, key, nonce, m, text_blocks::last_bytes(m));
+    passes::window(suite, key, nonce, c, start, pad, &mut work[..first]);
     let len = fields::field::pair(work[0], work[1]);
     let end = sealing::counts::lesser(m, 16 * ((len + 17) / 16));
     if 16 < end {
-        passes::window(suite, key, nonce, c, start.after(1), &mut work[16..end]);
+        passes::window(
+            suite,
+            key,
+            nonce,
+            c,
+            start.after(1),
+            pad,
+            &mut work[16..end],
+        );
     }
     len
 }

@@ -1,26 +1,12 @@
-// Bytes copied and added. A function with a precondition serves our own crates, which have tested what it asks.
+// Bytes filled up and added. A function with a precondition serves our own crates, which have tested what it asks.
 ghost use mathlib.Core.Path.{_≡_};
-ghost use mathlib.Core.List.{_++_};
 ghost use Prim.Native.Nat.{_/_, _≤_};
-ghost use lib.ListN.{length, drop};
+ghost use lib.ListN.{length};
 ghost use Rattle.bits.specs.Bytes.{added};
 ghost use Rattle.calls.specs.Calls.{filled};
 ghost use Rattle.calls.specs.Tweak.{blocksOf};
 ghost use Rattle.blockwise.specs.Blocks.{block};
 ghost use Rattle.sums.specs.Sums.{sumFrom};
-
-// The bytes of s at the start of d.
-pub fn copy(s: &[u8], d: &mut [u8])
-    requires { ⌜ length (now s) ≤ length (now d) ⌝ }
-    ensures { λ r. ⌜ now (d .exit) ≡ now (s .entry) ++ drop (length (now (s .entry))) (now (d .entry)) ⌝ }
-{
-    let n = s.len();
-    let mut i: usize = 0;
-    while i < n {
-        d[i] = s[i];
-        i += 1;
-    }
-}
 
 // Two blocks added by xor.
 pub fn add(a: [u8; 16], b: [u8; 16]) -> [u8; 16]
@@ -42,7 +28,7 @@ pub fn fill(s: &[u8], pad: u8) -> [u8; 16]
 {
     let n = s.len();
     let mut b = [0u8; 16];
-    copy(s, &mut b);
+    blockwise::copy(s, &mut b);
     if n < 16 {
         b[n] = pad;
     }

@@ -11,9 +11,8 @@ use Rattle.cipher.specs.Entry.{encipheredBlocks, decipheredBlocks}
 use Rattle.suites.specs.Suite.{listed, cipherOf}
 use Rattle.suites.specs.declared.suite.Suite.{Suite}
 use Rattle.blockwise.specs.Blocks.{block, strung, eachOf, eachBlock}
-use Rattle.blockwise.proofs.Each.{Blockwise, strung-whole, strung-add, block-long, block-later, block-of-strung}
+use Rattle.blockwise.proofs.Each.{Blockwise, strung-whole, strung-add, block-long, block-later, block-of-strung, strung-ext}
 use Rattle.runs.proofs.Runs.{ahead-blockwise, back-blockwise, encipher-run, decipher-run}
-use Rattle.calls.proofs.Strung.{strung-ext}
 use Rattle.text_blocks.specs.Under.{enciphers, deciphers, either}
 
 pub strung-front : (k : ℕ) (tw : ℕ → List ℕ) → ((i : ℕ) → length (tw i) ≡ 16) → (rest : List ℕ) → length (take (16 * k) (strung k tw ++ rest)) ≡ 16 * k

@@ -1,10 +1,11 @@
 -- The ciphers under a suite that is listed, and blocks under the tweaks of their numbers.
 use mathlib.Core.Bool.{Bool, cond}
 use mathlib.Core.List.{List, _++_}
-use Prim.Native.Nat.{ℕ, _+_, _*_}
+use Prim.Native.Nat.{ℕ, _+_, _-_, _*_, _/_}
 use lib.ListN.{drop}
 use Rattle.blockwise.specs.Blocks.{strung, block}
-use Rattle.calls.specs.Tweak.{textTweak}
+use Rattle.calls.specs.Calls.{lengthBlock}
+use Rattle.calls.specs.Tweak.{textTweak, specialTweak, lastTextMark}
 use Rattle.suites.specs.declared.suite.Suite.{Suite}
 use Rattle.suites.specs.Suite.{cipherOf}
 use Rattle.rounds.specs.Cipher.{encipher, decipher}
@@ -26,3 +27,11 @@ numbered ahead s key nonce number b = either ahead s key (textTweak nonce number
 -- the first k blocks of x, each by its number, from `first` on; the bytes behind them stay
 abbrev pub firstBlocks : Bool → Suite → List ℕ → List ℕ → ℕ → ℕ → List ℕ → List ℕ
 firstBlocks ahead s key nonce first k x = strung k (λ i. numbered ahead s key nonce (first + i) (block x i)) ++ drop (16 * k) x
+
+-- how many bytes the last block of m has; 0 for an empty text
+abbrev pub lastBytes : ℕ → ℕ
+lastBytes m = m - 16 * ((m - 1) / 16)
+
+-- what is added to that block
+abbrev pub padOf : Suite → List ℕ → List ℕ → ℕ → List ℕ
+padOf s key nonce m = enciphers s key (specialTweak nonce (lastTextMark m)) (lengthBlock (lastBytes m))

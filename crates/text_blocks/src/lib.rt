@@ -9,7 +9,7 @@ ghost use Rattle.calls.specs.Calls.{lengthBlock};
 ghost use Rattle.calls.specs.Pieces.{through};
 ghost use Rattle.calls.specs.Tweak.{specialTweak, full, lastTextMark};
 ghost use Rattle.suites.specs.Suite.{listed};
-ghost use Rattle.text_blocks.specs.Under.{enciphers, either, firstBlocks};
+ghost use Rattle.text_blocks.specs.Under.{enciphers, deciphers, either, firstBlocks, lastBytes, padOf};
 ghost use Rattle.text_blocks.specs.Text.{Usable, Part};
 
 // Whether the last block of n bytes is full.
@@ -36,13 +36,14 @@ pub fn up_to_64(n: usize) -> usize
     if n < 64 { n } else { 64 }
 }
 
-// One block enciphered.
+// One block enciphered, without look-ups.
 pub fn encipher_one(suite: Suite, key: [u8; 16], tweak: [u8; 16], block: [u8; 16]) -> [u8; 16]
     requires { ⌜ listed (suite .cipher) (suite .steps) ≡ true ⌝ }
     ensures { λ r. ⌜ r ≡ enciphers suite key tweak block ⌝ }
 {
-    let o = cipher::block::encipher(suite, key, tweak, block);
-    o.block
+    let mut b = block;
+    cipher::blocks::encipher_blocks(suite, key, &tweak, &mut b);
+    b
 }
 
 // The first k blocks of s, each under the tweak of its number, from `first` on.
@@ -72,7 +73,14 @@ fn chunk(
 }
 
 // The whole blocks of s likewise.
-fn blocks(ahead: bool, suite: Suite, key: [u8; 16], nonce: &[u8], first: TextBlock, s: &mut [u8])
+pub fn blocks(
+    ahead: bool,
+    suite: Suite,
+    key: [u8; 16],
+    nonce: &[u8],
+    first: TextBlock,
+    s: &mut [u8],
+)
     requires { ⌜ Usable suite (now nonce)
         × (first .0 + length (now s) < 2 ^ 32) ⌝ }
     ensures { λ r. ⌜ now (s .exit)
@@ -89,44 +97,63 @@ fn blocks(ahead: bool, suite: Suite, key: [u8; 16], nonce: &[u8], first: TextBlo
     }
 }
 
+// The block that has the length of r bytes in bits.
+pub fn length_block(r: usize) -> [u8; 16]
+    requires { ⌜ r ≤ 16 ⌝ }
+    ensures { λ b. ⌜ b ≡ lengthBlock r ⌝ }
+{
+    let mut b = [0u8; 16];
+    b[15] = (8 * r) as u8;
+    b
+}
+
 // What is added to the last block of a text of m bytes, which has r.
-fn pad(suite: Suite, key: [u8; 16], nonce: &[u8], m: usize, r: usize) -> [u8; 16]
+pub fn pad(suite: Suite, key: [u8; 16], nonce: &[u8], m: usize, r: usize) -> [u8; 16]
     requires { ⌜ Usable suite (now nonce)
         × (r ≤ 16) ⌝ }
     ensures { λ r'. ⌜ r' ≡ enciphers suite key (specialTweak (now (nonce .entry)) (lastTextMark m)) (lengthBlock r) ⌝ }
 {
-    let mut b = [0u8; 16];
-    b[15] = (8 * r) as u8;
     let t = tweak::special_tweak(nonce, mark(m, 0xC0, 0xC8));
-    encipher_one(suite, key, t, b)
+    encipher_one(suite, key, t, length_block(r))
 }
 
-// A part of a text of m bytes, from block `first` on.
+// How many bytes the last block of m has.
+pub fn last_bytes(m: usize) -> usize
+    ensures { λ r. ⌜ (r ≡ lastBytes m)
+        × (r ≤ 16) ⌝ }
+{
+    if m == 0 {
+        return 0;
+    }
+    m - 16 * ((m - 1) / 16)
+}
+
+// A part of a text of m bytes, from block `first` on, deciphered; `pad` is what is added to the text's last block.
 pub fn through(
-    ahead: bool,
     suite: Suite,
     key: [u8; 16],
     nonce: &[u8],
     m: usize,
     first: TextBlock,
+    pad: [u8; 16],
     s: &mut [u8],
 )
     requires { ⌜ Usable suite (now nonce)
-        × Part m (first .0) (length (now s)) ⌝ }
+        × Part m (first .0) (length (now s))
+        × (pad ≡ padOf suite key (now nonce) m) ⌝ }
     ensures { λ r. ⌜ now (s .exit)
-        ≡ through (either ahead suite key) (enciphers suite key) (now (nonce .entry)) m (first .0) (now (s .entry)) ⌝ }
+        ≡ through (deciphers suite key) (enciphers suite key) (now (nonce .entry)) m (first .0) (now (s .entry)) ⌝ }
 {
     let n = s.len();
     let end = first.place() + n;
     if end < m {
-        blocks(ahead, suite, key, nonce, first, s);
+        blocks(false, suite, key, nonce, first, s);
         return;
     }
     if n == 0 {
         return;
     }
     let at = 16 * ((n - 1) / 16);
-    blocks(ahead, suite, key, nonce, first, &mut s[..at]);
-    let p = pad(suite, key, nonce, m, n - at);
-    sums::add_to(&mut s[at..], p);
+    blocks(false, suite, key, nonce, first, &mut s[..at]);
+    sums::add_to(&mut s[at..], pad);
 }

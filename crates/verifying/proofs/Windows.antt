@@ -15,7 +15,8 @@ use Rattle.suites.specs.declared.suite.Suite.{Suite}
 use Rattle.text_blocks.specs.Under.{enciphers, deciphers}
 use Rattle.text_blocks.proofs.Chunks.{enciphers-blockwise, deciphers-blockwise}
 use Rattle.sealing.specs.Passes.{textOf, textPart, textIn}
-use Rattle.opening.proofs.Opened.{through-split, window-long}
+use Rattle.opening.proofs.Opened.{window-long}
+use Rattle.text_blocks.proofs.Parts.{through-split}
 use Rattle.verifying.specs.Within.{heldIn}
 
 -- no more can be left out than there is

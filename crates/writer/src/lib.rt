@@ -62,7 +62,7 @@ impl Writer {
             }
             Answer::Done => {
                 let opening = format::layout::opening(suite, number);
-                sums::copy(&opening, buf);
+                blockwise::copy(&opening, buf);
                 let k = blockwise::block_at(key, 0);
                 let writer = Writer {
                     suite,

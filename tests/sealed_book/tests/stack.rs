@@ -77,11 +77,12 @@ impl Most {
 }
 
 /// The block ciphers, with suites that are listed and one that is not.
+// Of 100 blocks 64 go side by side, and the others in a group that is filled up.
 fn blocks(most: &mut Most, random: &mut Random) {
     for (cipher, steps) in SUITES.into_iter().chain([(0, 0)]) {
         let key: [u8; 16] = random.bytes();
-        let tweaks = random.some_bytes(160);
-        let mut blocks = random.some_bytes(160);
+        let tweaks = random.some_bytes(1600);
+        let mut blocks = random.some_bytes(1600);
         let (key, tweaks, blocks) = (key.as_ptr(), tweaks.as_ptr(), blocks.as_mut_ptr());
         // SAFETY: key, tweaks and blocks have the lengths that are given.
         let returned = unsafe {
@@ -93,10 +94,10 @@ fn blocks(most: &mut Most, random: &mut Random) {
                     sb_decipher(cipher, steps, key, tweaks, blocks)
                 }),
                 most.measure("sb_encipher_blocks", || {
-                    sb_encipher_blocks(cipher, steps, key, tweaks, 160, blocks, 160)
+                    sb_encipher_blocks(cipher, steps, key, tweaks, 1600, blocks, 1600)
                 }),
                 most.measure("sb_decipher_blocks", || {
-                    sb_decipher_blocks(cipher, steps, key, tweaks, 160, blocks, 160)
+                    sb_decipher_blocks(cipher, steps, key, tweaks, 1600, blocks, 1600)
                 }),
             ]
         };

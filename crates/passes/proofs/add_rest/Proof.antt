@@ -11,16 +11,16 @@ use Rattle.passes.proofs.add_rest.Statement.{statement}
 use Rattle.passes.proofs.add_rest.Tie as tie
 
 abbrev Inv-loop : tie.InvT-loop
-Inv-loop suite key nonce c m all₀ next₀ at₀ all next at =
+Inv-loop suite key nonce c pad m all₀ next₀ at₀ all next at =
     (next .0 ≤ blocksOf (length c)) × (at ≡ 16 * next .0) × (all ≡ textSum suite key nonce c (next .0))
 
 abbrev μ-loop : tie.MeasureT-loop
-μ-loop suite key nonce c m all₀ next₀ at₀ all next at = m - at
+μ-loop suite key nonce c pad m all₀ next₀ at₀ all next at = m - at
 
 loop-holds : tie.Need-loop-holds Inv-loop μ-loop
 loop-holds c =
     let p = c .before .before .before in
-    (p .pre .1, c .place .ensures, p .pre .2)
+    (p .pre .1, c .place .ensures, p .pre .3)
 
 add-some-requires : tie.Need-add-some-requires Inv-loop μ-loop
 add-some-requires c κs =
@@ -28,7 +28,7 @@ add-some-requires c κs =
     let p = h .before .before .before .before in
     let m = length (p .args .c .now) in
     let n = c .lesser .ensures ∙ ap (λ (at : ℕ). min (m - at) 1024) (h .loop .inv .1) in
-    (p .pre .0, rw n (part-of-rest m (h .loop .next .0) 1024 (omega arith) (p .pre .0 .small) refl), omega arith, h .loop .inv .2)
+    (p .pre .0, rw n (part-of-rest m (h .loop .next .0) 1024 (omega arith) (p .pre .0 .small) refl), omega arith, p .pre .2, h .loop .inv .2)
 
 loop-again : tie.Need-loop-again Inv-loop μ-loop
 loop-again c =

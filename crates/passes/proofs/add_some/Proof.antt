@@ -11,7 +11,7 @@ use Rattle.passes.proofs.add_some.Tie as tie
 add-window-requires : tie.Need-add-window-requires
 add-window-requires c κs =
     let p = c .before .before .before in
-    (p .pre .0, rw (zeros-front (p .args .n) 1024 (p .pre .2)) (p .pre .1), p .pre .3)
+    (p .pre .0, rw (zeros-front (p .args .n) 1024 (p .pre .2)) (p .pre .1), p .pre .3, p .pre .4)
 
 returns : tie.Need-returns
 returns c =

@@ -17,7 +17,7 @@ returns c =
     let p = w .before .before .before .before .before in
     let a = p .args in (
       c .add-all .ensures
-          ∙ (λ i. sumFrom (p .pre .2 i) (blocksOf (length (w .window .ensures i))) (λ j. filled 0x00 (block (w .window .ensures i) j)))
+          ∙ (λ i. sumFrom (p .pre .3 i) (blocksOf (length (w .window .ensures i))) (λ j. filled 0x00 (block (w .window .ensures i) j)))
           ∙ window-sum (a .suite) (a .key) (a .nonce .now) (p .pre .0 .usable .short) (a .c .now) (a .first .0) (length (a .work .now)) (p .pre .1),
       w .window .ensures,
     )

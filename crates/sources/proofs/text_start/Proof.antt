@@ -11,6 +11,8 @@ use lib.ListN.{length, getD, take, drop, length-append, length-drop}
 use lib.Seq.{length-take-le}
 use Rattle.fields.specs.Unit.{sourceLength}
 use Rattle.text_blocks.specs.Text.{Part}
+use Rattle.text_blocks.specs.Under.{padOf}
+use Rattle.text_blocks.proofs.Parts.{pad-is}
 use Rattle.sealing.specs.Passes.{textOf, textPart}
 use Rattle.sources.proofs.Text.{text-long, text-front, text-part, stated-front, front-enough, front-joined}
 use Rattle.sources.proofs.text_start.Statement.{statement}
@@ -37,24 +39,32 @@ first-long : (c : tie.After-lesser) → length (take (c .lesser .result) (c .bef
 first-long c = length-take-le (c .lesser .result) (c .before .before .before .before .args .work .now) (omega arith)
 
 slice-aggregate-window : tie.Need-slice-aggregate-window
-slice-aggregate-window c = sym (first-long (c .before .before))
+slice-aggregate-window c = sym (first-long (c .before .before .before .before))
+
+-- what is added to the last block
+padded : (c : tie.After-pad) → let a = c .before .before .before .before .before .before .before .args in
+    c .pad .result ≡ padOf (a .suite) (a .key) (a .nonce .now) (length (a .c .now))
+padded c =
+    let a = c .before .before .before .before .before .before .before .args in
+    pad-is (a .suite) (a .key) (a .nonce .now) (length (a .c .now)) _ (c .pad .ensures) (c .before .last-bytes .ensures .0)
 
 window-requires : tie.Need-window-requires
 window-requires c κs =
-    let h = c .before .before in
+    let z = c .before .before .before in
+    let h = z .before in
     let p = h .before .before .before .before in
     let m = length (p .args .c .now) in
     let n = h .lesser .result in
-    (p .pre .0, rw (first-long h, c .before .start .ensures) (start-part m n (p .pre .0 .small) (h .lesser .ensures)))
+    (p .pre .0, rw (first-long h, z .start .ensures) (start-part m n (p .pre .0 .small) (h .lesser .ensures)), padded (c .before))
 
 -- what the first window leaves
 module _ (c : tie.After-window) where
   abbrev begun : tie.Start
-  begun = c .before .before .before .before .before .before .before
+  begun = c .before .before .before .before .before .before .before .before .before
 
   -- how many bytes the first window has
   abbrev front : ℕ
-  front = c .before .before .before .lesser .result
+  front = c .before .before .before .before .before .lesser .result
 
   abbrev T : List ℕ
   T = let a = begun .args in textOf (a .suite) (a .key) (a .nonce .now) (a .c .now)
@@ -64,26 +74,26 @@ module _ (c : tie.After-window) where
       let a = begun .args in
       text-long (a .suite) (a .key) (a .nonce .now) (begun .pre .0 .usable .short) (a .c .now) (begun .pre .0 .small)
 
-  windowed : c .window .last .1 .1 .1 .1 .1 .0 ≡ take front T
+  windowed : c .window .last .1 .1 .1 .1 .1 .1 .0 ≡ take front T
   windowed =
-      let h = c .before .before .before in
+      let h = c .before .before .before .before .before in
       let p = h .before .before .before .before in
       let a = p .args in
       let n = h .lesser .result in
       c .window .ensures
-      ∙ (λ i. textPart (a .suite) (a .key) (a .nonce .now) (a .c .now) (c .before .before .start .ensures i) (first-long h i))
+      ∙ (λ i. textPart (a .suite) (a .key) (a .nonce .now) (a .c .now) (c .before .before .before .before .start .ensures i) (first-long h i))
       ∙ text-front (a .suite) (a .key) (a .nonce .now) (p .pre .0 .usable .short) (a .c .now) (p .pre .0 .small) n
       (start-part (length (a .c .now)) n (p .pre .0 .small) (h .lesser .ensures))
 
   abbrev held : List ℕ
-  held = c .window .last .1 .1 .1 .1 .1 .0 ++ drop front (begun .args .work .now)
+  held = c .window .last .1 .1 .1 .1 .1 .1 .0 ++ drop front (begun .args .work .now)
 
   held-is : held ≡ take front T ++ drop front (begun .args .work .now)
   held-is = ap (λ (l : List ℕ). l ++ drop front (begun .args .work .now)) windowed
 
   held-long : length held ≡ length (begun .args .work .now)
   held-long =
-      let h = c .before .before .before in
+      let h = c .before .before .before .before .before in
       let a = h .before .before .before .before .args in
       let n = h .lesser .result in
       ap length held-is
@@ -94,7 +104,7 @@ module _ (c : tie.After-window) where
 said : (c : tie.After-pair) → c .pair .result ≡ sourceLength (T (c .before .before .before .before .before))
 said c =
     let w = c .before .before .before .before .before in
-    let h = w .before .before .before in
+    let h = w .before .before .before .before .before in
     let p = h .before .before .before .before in
     let n = h .lesser .result in
     c .pair .ensures
@@ -118,7 +128,7 @@ part-window-end : tie.Need-part-window-end
 part-window-end c =
     let l = c .before .before in
     let w = l .before .before .before .before .before .before in
-    omega (arith, ends l, held-long w)
+    omega (arith, ends l, held-long w, begun w .pre .3)
 
 -- how many bytes the second window has
 second-long : (c : tie.Then1) → length (take (c .before .lesser2 .result - 16) (drop 16 (held (c .before .before .before .before .before .before .before))))
@@ -126,7 +136,7 @@ second-long : (c : tie.Then1) → length (take (c .before .lesser2 .result - 16)
 second-long c =
     let l = c .before in
     let w = l .before .before .before .before .before .before in
-    length-take-le (l .lesser2 .result - 16) (drop 16 (held w)) (rw length-drop (omega (arith, ends l, held-long w)))
+    length-take-le (l .lesser2 .result - 16) (drop 16 (held w)) (rw length-drop (omega (arith, ends l, held-long w, begun w .pre .3)))
 
 behind : (c : tie.Then1) → Part (length (begun (c .before .before .before .before .before .before .before) .args .c .now)) 1 (c .before .lesser2 .result - 16)
 behind c =
@@ -142,8 +152,9 @@ second-number c = omega arith
 window-requires-2 : tie.Need-window-requires-2
 window-requires-2 c κs =
     let t = c .before .before in
-    let p = begun (t .before .before .before .before .before .before .before) in
-    (p .pre .0, rw (second-long t, second-number (c .before)) (behind t))
+    let w = t .before .before .before .before .before .before .before in
+    let p = begun w in
+    (p .pre .0, rw (second-long t, second-number (c .before)) (behind t), padded (w .before .before))
 
 returns : tie.Need-returns
 returns c =
@@ -151,7 +162,7 @@ returns c =
     let t = v .before .before .before in
     let l = t .before in
     let w = l .before .before .before .before .before .before in
-    let h = w .before .before .before in
+    let h = w .before .before .before .before .before in
     let p = h .before .before .before .before in
     let a = p .args in
     let m = length (a .c .now) in
@@ -160,13 +171,13 @@ returns c =
     let r = l .before .pair .result in
     let x = held w in
     let full : n ≡ 16 = omega (arith, ends l) in
-    let second : v .window2 .last .1 .1 .1 .1 .1 .0 ≡ take (e - 16) (drop 16 (T w)) =
+    let second : v .window2 .last .1 .1 .1 .1 .1 .1 .0 ≡ take (e - 16) (drop 16 (T w)) =
     v .window2 .ensures
     ∙ (λ i. textPart (a .suite) (a .key) (a .nonce .now) (a .c .now) (second-number (v .before .before) i) (second-long t i))
     ∙ text-part (a .suite) (a .key) (a .nonce .now) (p .pre .0 .usable .short) (a .c .now) (p .pre .0 .small) 1 (e - 16) (behind t) in
     let first : take 16 x ≡ take 16 (T w) =
     ap (take 16) (held-is w) ∙ front-enough (T w) (drop n (a .work .now)) n 16 (omega arith) (omega (arith, T-long w)) in
-    let more : length (v .window2 .last .1 .1 .1 .1 .1 .0) ≡ length (take (e - 16) (drop 16 x)) =
+    let more : length (v .window2 .last .1 .1 .1 .1 .1 .1 .0) ≡ length (take (e - 16) (drop 16 x)) =
     ap length second
     ∙ length-take-le (e - 16) (drop 16 (T w)) (rw length-drop (omega (arith, ends l, T-long w)))
     ∙ sym (second-long t) in
@@ -175,14 +186,14 @@ returns c =
       front =
           ap (λ (y : List ℕ). take (2 + r) (take 16 x ++ (y ++ drop (e - 16) (drop 16 x)))) second
           ∙ front-joined (T w) x (drop (e - 16) (drop 16 x)) (e - 16) (2 + r) first (omega (arith, ends l)) (omega (arith, ends l, T-long w));
-      long = same-len-mid 16 (e - 16) x (v .window2 .last .1 .1 .1 .1 .1 .0) more ∙ held-long w;
+      long = same-len-mid 16 (e - 16) x (v .window2 .last .1 .1 .1 .1 .1 .1 .0) more ∙ held-long w;
     }
 
 returns-2 : tie.Need-returns-2
 returns-2 c =
     let l = c .before in
     let w = l .before .before .before .before .before .before in
-    let h = w .before .before .before in
+    let h = w .before .before .before .before .before in
     let a = h .before .before .before .before .args in
     let n = h .lesser .result in
     let r = l .before .pair .result in
@@ -196,6 +207,8 @@ pub text-start-spec : {M : Type 1} → statement M
 text-start-spec =
     tie.close
     (tie.spec
+    (λ c κs. search needs)
+    (λ c κs. search needs)
     (λ c κs. search needs)
     (λ c κs. search needs)
     (λ c. search needs)

@@ -9,7 +9,7 @@ use Rattle.cipher.proofs.block.decipher.Tie as tie
 returns : tie.Need-returns
 returns c =
     let a = c .before .before .before .before .args in
-    let e = c .before .decipher-blocks .ensures in
+    let e = c .before .look-up-back .ensures in
     (e .0, e .1 ∙ deciphered-one (a .suite .cipher) (a .suite .steps) (a .key) (a .t3) (a .block) (omega arith) (omega arith))
 
 pub decipher-spec : {M : Type 1} → statement M

@@ -9,7 +9,7 @@ use Rattle.cipher.proofs.block.encipher.Tie as tie
 returns : tie.Need-returns
 returns c =
     let a = c .before .before .before .before .args in
-    let e = c .before .encipher-blocks .ensures in
+    let e = c .before .look-up-ahead .ensures in
     (e .0, e .1 ∙ enciphered-one (a .suite .cipher) (a .suite .steps) (a .key) (a .t3) (a .block) (omega arith) (omega arith))
 
 pub encipher-spec : {M : Type 1} → statement M

@@ -1,13 +1,10 @@
 -- By what `is_listed` answered.
-use mathlib.Core.Path.{sym, _∙_}
-use mathlib.Core.Bool.{true}
+use mathlib.Core.Path.{refl, sym, _∙_}
 use borrow.Author.Tests.{not-true, not-false}
 use borrow.Author.Needs.{needs}
 use Rattle.rounds.specs.Cipher.{encipher}
-use Rattle.runs.specs.Run.{aheadBlock}
-use Rattle.runs.proofs.Runs.{encipher-run}
 use Rattle.cipher.specs.Entry.{encipheredBlocks}
-use Rattle.cipher.proofs.Entries.{listed-run, unlisted-run}
+use Rattle.cipher.proofs.Entries.{listed-steps, listed-many, unlisted-run}
 use Rattle.cipher.proofs.blocks.encipher_blocks.Statement.{statement}
 use Rattle.cipher.proofs.blocks.encipher_blocks.Tie as tie
 
@@ -17,8 +14,15 @@ returns c =
     let h = c .before in
     let a = h .before .before .before .args in
     let s = a .suite in
-    unlisted-run (λ k n. aheadBlock k 0 n true) encipher encipher-run (s .cipher) (s .steps) (a .key) (a .tweaks .now) (a .blocks .now)
+    unlisted-run encipher encipher (λ c n key t b. refl) (s .cipher) (s .steps) (a .key) (a .tweaks .now) (a .blocks .now)
     (sym (h .is-listed .ensures) ∙ not-true (h .is-listed .result) (c .if1 .taken))
+
+all-requires : tie.Need-all-requires
+all-requires c κs =
+    let l = c .before .before .before in
+    let h = l .before in
+    let s = h .before .before .before .args .suite in
+    listed-steps (s .cipher) (s .steps) (sym (h .is-listed .ensures) ∙ not-false (h .is-listed .result) (l .if1 .left))
 
 returns-2 : tie.Need-returns-2
 unfolding encipheredBlocks
@@ -28,9 +32,9 @@ returns-2 c =
     let h = l .before in
     let a = h .before .before .before .args in
     let s = a .suite in
-    listed-run (λ k n. aheadBlock k 0 n true) encipher encipher-run (s .cipher) (s .steps) (a .key) (a .tweaks .now) (a .blocks .now)
+    listed-many encipher encipher (λ c n key t b. refl) (s .cipher) (s .steps) (a .key) (a .tweaks .now) (a .blocks .now)
     (sym (h .is-listed .ensures) ∙ not-false (h .is-listed .result) (l .if1 .left))
-    (k .cipher-of .ensures) (c .before .before .run-ahead .ensures)
+    (k .cipher-of .ensures) (c .before .before .all .ensures)
 
 pub encipher-blocks-spec : {M : Type 1} → statement M
 encipher-blocks-spec =
@@ -40,6 +44,6 @@ encipher-blocks-spec =
     returns
     (λ c. search needs)
     (λ c κs. search needs)
-    (λ c κs. search needs)
+    all-requires
     (λ c. search needs)
     returns-2)

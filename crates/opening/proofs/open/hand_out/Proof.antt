@@ -9,9 +9,10 @@ use lib.ListN.{length, take, drop, length-append, length-drop}
 use lib.Seq.{length-take-le, take-length, take-at, drop-at, drop-drop}
 use Rattle.calls.specs.Pieces.{through}
 use Rattle.text_blocks.specs.Under.{enciphers, deciphers}
+use Rattle.text_blocks.proofs.Parts.{pad-is}
 use Rattle.sealing.specs.Passes.{textPart}
 use Rattle.bits.proofs.Lists.{part-rest}
-use Rattle.opening.proofs.Opened.{through-split}
+use Rattle.text_blocks.proofs.Parts.{through-split}
 use Rattle.opening.proofs.open.hand_out.Statement.{statement}
 use Rattle.opening.proofs.open.hand_out.Tie as tie
 
@@ -69,16 +70,22 @@ next c = omega arith
 
 window-requires : tie.Need-window-requires
 window-requires c κs =
-    let k = c .before .before .before .before .before .before in
+    let d = c .before .before .before in
+    let k = d .before .before .before .before .before in
     let p = k .before .before .before .before .before .before .before .before in
-    let m = length (p .args .c .now) in
+    let a = p .args in
+    let m = length (a .c .now) in
     let n = k .before .before .before .lesser .result in
-    let b = blocks (c .before .before .before) in
-    (p .pre .0, rw (left k, next (c .before)) (record { small = p .pre .0 .small; within = omega arith; whole = inl (omega arith) }))
+    let b = blocks (d .before .before) in (
+      p .pre .0,
+      rw (left k, next d) (record { small = p .pre .0 .small; within = omega arith; whole = inl (omega arith) }),
+      pad-is (a .suite) (a .key) (a .nonce .now) m _ (c .before .pad .ensures) (c .before .before .last-bytes .ensures .0),
+    )
 
 returns : tie.Need-returns
 returns c =
-    let t = c .before .before .before .before .before .before in
+    let d = c .before .before .before .before .before .before in
+    let t = d .before .before in
     let k = t .before .before .before in
     let h = k .before .before .before in
     let a = h .before .before .before .before .before .args in
@@ -92,8 +99,8 @@ returns c =
     let at = 16 * (n / 16) in
     let part = textPart (a .suite) (a .key) (a .nonce .now) (a .c .now) 0 in
     let start : take n C ≡ part at = ap (take n) (copied k) ∙ take-at A (drop n (a .out .now)) n (front h) ∙ first h ∙ ap part (sym b) in
-    let number = next (c .before .before .before .before) in
-    let rest : take (length (take (m - n) (drop n C))) (drop (16 * c .before .before .before .before .after .result .0) (a .c .now)) ≡ drop at (a .c .now) =
+    let number = next d in
+    let rest : take (length (take (m - n) (drop n C))) (drop (16 * d .after .result .0) (a .c .now)) ≡ drop at (a .c .now) =
     ap (λ k. take (length (take (m - n) (drop n C))) (drop (16 * k) (a .c .now))) number
     ∙ ap (λ j. take j (drop at (a .c .now))) (left k ∙ ap (λ j. m - j) (sym b))
     ∙ part-rest at (a .c .now) in
@@ -125,6 +132,8 @@ hand-out-spec =
     (λ c κs. search needs)
     (λ c. sym (front (c .before)))
     (λ c κs. omega (arith, front (c .before .before)))
+    (λ c κs. search needs)
+    (λ c κs. search needs)
     (λ c κs. search needs)
     (λ c κs. search needs)
     (λ c. search needs)

@@ -6,8 +6,8 @@ use native.Mathlib.Omega.{arith}
 use borrow.Author.Needs.{needs}
 use lib.ListN.{length, getD, set, take, drop}
 use Rattle.bits.proofs.Fronts.{front-more, front-long, front-all}
-use Rattle.sums.proofs.copy.Statement.{statement}
-use Rattle.sums.proofs.copy.Tie as tie
+use Rattle.blockwise.proofs.copy.Statement.{statement}
+use Rattle.blockwise.proofs.copy.Tie as tie
 
 abbrev Inv-loop : tie.InvT-loop
 Inv-loop s d₀ n i₀ d i = (i ≤ n) × (d ≡ take i s ++ drop i d₀)

@@ -1,0 +1,3 @@
+pub mod Few
+pub mod Ciphered
+pub mod PutBack

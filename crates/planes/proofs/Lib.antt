@@ -1,0 +1,7 @@
+pub mod Column
+pub mod Goes
+pub mod Levels
+pub mod Pairs
+pub mod Turned
+pub mod Reading
+pub mod Writing
