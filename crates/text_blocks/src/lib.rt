@@ -36,7 +36,7 @@ pub fn up_to_64(n: usize) -> usize
     if n < 64 { n } else { 64 }
 }
 
-// One block enciphered, without look-ups.
+// One block enciphered.
 pub fn encipher_one(suite: Suite, key: [u8; 16], tweak: [u8; 16], block: [u8; 16]) -> [u8; 16]
     requires { ⌜ listed (suite .cipher) (suite .steps) ≡ true ⌝ }
     ensures { λ r. ⌜ r ≡ enciphers suite key tweak block ⌝ }
