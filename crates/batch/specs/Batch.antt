@@ -12,7 +12,7 @@ use Rattle.calls.specs.Tweak.{textTweak, specialTweak, inner, lastTextMark}
 unfoldable pub putFirst : ℕ → (ℕ → List ℕ) → List ℕ → List ℕ
 putFirst k g buffer = strung k g ++ drop (16 * k) buffer
 
--- the tweak and the block of the call for text block i, which is b, of m bytes: what `textCall` has of a whole text
+-- of a text of m bytes, whose block i is b: the tweak and the block of the call for it, what `textCall` has of a whole text
 abbrev pub textTweakOf : List ℕ → ℕ → ℕ → List ℕ
 textTweakOf nonce m i = cond (inner m i) (textTweak nonce i) (specialTweak nonce (lastTextMark m))
 

@@ -7,7 +7,7 @@ use lib.ListN.{length, take, drop, length-drop, drop-of-length-le}
 use lib.Seq.{take-at, drop-at, drop-drop}
 use Rattle.bits.proofs.Lists.{part-rest}
 use Rattle.blockwise.specs.Blocks.{block, strung, eachOf, eachBlock}
-use Rattle.blockwise.proofs.Each.{Blockwise, block-long, block-later, strung-whole, strung-add, strung-ext, each-long}
+use Rattle.blockwise.proofs.Each.{Blockwise, block-long, block-later, strung-whole, strung-add, strung-ext}
 
 module _ (f : List ℕ → List ℕ → List ℕ) (k : Blockwise f) (t b : List ℕ) (g : ℕ) (few : g ≤ min (length t) (length b) / 16) where
   w : ℕ
@@ -20,9 +20,6 @@ module _ (f : List ℕ → List ℕ → List ℕ) (k : Blockwise f) (t b : List 
   before =
       strung-whole g each
       (λ i h. k .long (block t i) (block b i) (block-long t i (omega arith)) (block-long b i (omega arith)))
-
-  pub front-kept : length (eachOf f g t b) ≡ length b
-  front-kept = each-long f k t b g (omega arith) (omega arith)
 
   pub each-rest : {x : List ℕ} → x ≡ eachOf f g t b → take (16 * g) x ++ eachBlock f (drop (16 * g) t) (drop (16 * g) x) ≡ eachBlock f t b
   unfolding eachBlock eachOf w
@@ -68,5 +65,7 @@ module _ (f : List ℕ → List ℕ → List ℕ) (k : Blockwise f) (t b : List 
       let none : drop (length x - 16 * g) (drop (16 * g) x) ≡ [] =
       drop-of-length-le (drop (16 * g) x) {i = length x - 16 * g} (rw (length-drop (16 * g) x) (omega arith)) in
       (λ i. take (16 * g) x ++ (h i ++ none i))
-      ∙ ap (λ (l : List ℕ). take (16 * g) x ++ l) (append-nil (eachBlock f (take (length t - 16 * g) (drop (16 * g) t)) (take (length x - 16 * g) (drop (16 * g) x))) ∙ (λ i. eachBlock f (part-rest (16 * g) t i) (part-rest (16 * g) x i)))
+      ∙ ap (λ (l : List ℕ). take (16 * g) x ++ l)
+      (append-nil (eachBlock f (take (length t - 16 * g) (drop (16 * g) t)) (take (length x - 16 * g) (drop (16 * g) x)))
+      ∙ (λ i. eachBlock f (part-rest (16 * g) t i) (part-rest (16 * g) x i)))
       ∙ each-rest e

@@ -1,6 +1,6 @@
 // The entries of the tables as the ciphers themselves compute them: by the layers that enciphering and deciphering call, lent the
 // tables that those are lent. specs/TableLaw says that these are the paper's entries, and the made ones. So it does of those in on_planes, by
-// the boxes on planes, and of those in masked, by masks.
+// the boxes on planes, and of those in masked, by products.
 pub mod masked;
 pub mod on_planes;
 

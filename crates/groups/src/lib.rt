@@ -61,7 +61,7 @@ fn groups<'a>(
     }
 }
 
-// Fewer than 64 blocks at a place: a group that is filled up, and of which only these are put back.
+// At most 64 blocks at a place: a group that is filled up, and of which only these are put back.
 fn filled_up<'a>(
     ahead: bool,
     k: Cipher,

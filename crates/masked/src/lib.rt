@@ -1,4 +1,5 @@
-// Blocks through a whole cipher, one way or the other, with no load that depends on them, the key or the tweak.
+// Blocks through a whole cipher, one way or the other, with no load that depends on them, the key or the tweak. A function with a precondition
+// serves our own crates.
 use rounds::Cipher;
 use state::State;
 use tweakey::Schedule;

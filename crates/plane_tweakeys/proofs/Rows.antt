@@ -50,7 +50,7 @@ added-row r s b =
     ∙ (λ i. bitXor (sym (row-bit r b j h) i) (sym (row-bit s b j h) i))
     ∙ sym (bit-xor (rowAt r b) (rowAt s b) j))
 
--- 64 times a bit
+-- a bit in all 64 places
 all-bits : (b : ℕ) → b < 64 → (m : ℕ) → m < 2 → bit (m * 18446744073709551615) b ≡ m
 all-bits b h =
     two (λ (m : ℕ). bit (m * 18446744073709551615) b ≡ m) (bit-of-zero b)

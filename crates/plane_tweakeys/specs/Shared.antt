@@ -11,6 +11,6 @@ pub record Shared (w : List ℕ) (x : List (List ℕ)) : Type 0 where
   pub shape : Shaped x
   pub lanes : (b : ℕ) → b < 64 → lane x b ≡ w
 
--- the planes of a row that is c in every state: plane j is 64 times bit j of c
+-- the planes of a row that is c in every state: plane j has bit j of c in all 64 places
 unfoldable pub spread : ℕ → List ℕ
 spread c = tab 16 (λ j. bit c j * 18446744073709551615)

@@ -2,17 +2,17 @@
 use mathlib.Core.Path.{_≡_, refl, sym, ap, _∙_}
 use mathlib.Core.Bool.{Bool, true, false, cond, _&&_, _||_, not}
 use mathlib.Core.List.{List, []}
-use Prim.Native.Nat.{ℕ, zero, suc, _+_, _-_, _*_, _/_, _%_, _^_, _≤_, _<_}
+use Prim.Native.Nat.{ℕ, _+_, _-_, _/_, _%_, _<_}
 use native.Mathlib.Decide.{ℕ-discrete, decLt}
 use native.Mathlib.Omega.{arith}
-use borrow.Author.Tests.{lt-ltb, le-ltb, eq-eqb, ne-eqb, eqb-true}
-use lib.Dec.{T, eqb, leb, ltb, eqb→eq, ltb→lt, lit<}
+use borrow.Author.Tests.{lt-ltb, le-ltb, eq-eqb, ne-eqb}
+use lib.Dec.{T, eqb, ltb, eqb→eq, ltb→lt}
 use lib.ListN.{length, getD, set, length-set}
 use lib.Seq.{getD-set-same, getD-set-other}
 use Rattle.bits.specs.Table.{tab}
 use Rattle.bits.proofs.Elements.{tab-at, tab-long, tab-same-at, tab-of}
 use Rattle.bits.proofs.Tests.{all, all-at, and-left, and-right}
-use Rattle.planes.specs.Words.{wordAt, Words, distance, lower, upper, exchangedAt, exchanged, level}
+use Rattle.planes.specs.Words.{wordAt, distance, lower, upper, exchangedAt, exchanged, level}
 
 -- the first word of the pair that word j is in
 abbrev firstOf : ℕ → ℕ → ℕ
@@ -217,12 +217,3 @@ module _ (d m : ℕ) (known : T (distance d)) (y : List (List ℕ)) where
           (tab 8 (λ r. upper d m (wordAt (partly d m y i) i r) (wordAt (partly d m y i) (i + d) r)))
           (λ j. tab 8 (λ r. lower d m (getD (pair-first j) r 0) (getD (pair-second j) r 0)))
           (λ j. tab 8 (λ r. upper d m (getD (pair-first j) r 0) (getD (pair-second j) r 0)))
-
--- what is none of the first three distances is the last
-pub last-distance : (d : ℕ) → T (distance d) → (d ≡ 1 → ⊥) → (d ≡ 2 → ⊥) → (d ≡ 4 → ⊥) → d ≡ 8
-last-distance d t a b c =
-    or-cases (eqb d 1 || eqb d 2 || eqb d 4) (eqb d 8) t
-    (λ t. or-cases (eqb d 1 || eqb d 2) (eqb d 4) t
-    (λ t. or-cases (eqb d 1) (eqb d 2) t (λ e. absurd (a (eqb→eq d 1 e))) (λ e. absurd (b (eqb→eq d 2 e))))
-    (λ e. absurd (c (eqb→eq d 4 e))))
-    (eqb→eq d 8)

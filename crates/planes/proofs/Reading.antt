@@ -7,14 +7,13 @@ use native.Mathlib.Nat.{add-zero, mod-lt}
 use native.Mathlib.Decide.{ℕ-discrete}
 use native.Mathlib.Omega.{arith}
 use lib.Dec.{eqb, lit<}
-use lib.ListN.{length, getD, set, take, drop, replicate, length-set, length-replicate, length-drop}
+use lib.ListN.{length, getD, set, take, drop, replicate, length-set, length-drop}
 use lib.Seq.{getD-set-same, getD-set-other, getD-take, getD-drop, length-take-le}
 use Rattle.bits.specs.Table.{tab}
 use Rattle.bits.proofs.Elements.{tab-at, tab-long, tab-same-at, tab-of}
 use Rattle.state.specs.Block.{rows}
 use Rattle.state.proofs.Trips.{rows-long}
-use Rattle.planes.specs.Planes.{lane}
-use Rattle.planes.specs.Words.{wordAt, Words, digit, rowsIn, lower, upper, exchanged, level, turned, planesOf, wordsOf}
+use Rattle.planes.specs.Words.{wordAt, Words, digit, rowsIn, lower, upper, exchanged, level, turned, planesOf}
 use Rattle.planes.specs.Loaded.{rowFrom, Quad, Eight, Read, Loaded}
 use Rattle.planes.proofs.Turned.{planes-shaped, lane-turned}
 
@@ -67,14 +66,6 @@ level-words d m y =
 pub turned-words : (y : List (List ℕ)) → Words (turned y)
 unfolding turned
 turned-words y = level-words 8 0x00FF00FF00FF00FF (level 4 0x0F0F0F0F0F0F0F0F (level 2 0x3333333333333333 (level 1 0x5555555555555555 y)))
-
-pub words-words : (x : List (List ℕ)) → Words (wordsOf x)
-unfolding wordsOf
-words-words x =
-    record {
-      long = tab-long 16 (λ j. tab 8 (λ i. wordAt x i j));
-      wide = λ c h. ap (λ (l : List ℕ). length l) (tab-at [] 16 (λ j. tab 8 (λ i. wordAt x i j)) c h) ∙ tab-long 8 (λ i. wordAt x i c);
-    }
 
 pub read-none : (s : List ℕ) (at : ℕ) (y : List (List ℕ)) → Words y → Read s at 0 y
 read-none s at y w = record { shape = w; quads = λ c h. absurd (omega arith) }

@@ -1,5 +1,5 @@
 -- Four levels turn the words of each row: planes from words, and words from planes.
-use mathlib.Core.Path.{_≡_, refl, sym, ap, _∙_}
+use mathlib.Core.Path.{_≡_, sym, ap, _∙_}
 use mathlib.Core.Bool.{Bool, _&&_}
 use mathlib.Core.List.{List, []}
 use Prim.Native.Nat.{ℕ, _+_, _*_, _/_, _%_, _<_}
@@ -7,7 +7,7 @@ use native.Mathlib.Nat.{mod-lt}
 use native.Mathlib.Omega.{arith}
 use lib.Dec.{T, eqb, ltb, eqb→eq, ltb→lt, lit<}
 use lib.ListN.{length, getD}
-use Rattle.bits.specs.Bit.{bit, gather}
+use Rattle.bits.specs.Bit.{bit}
 use Rattle.bits.specs.Table.{tab}
 use Rattle.bits.proofs.Bits.{gather-ext}
 use Rattle.bits.proofs.Elements.{tab-at, tab-long, tab-same-at}

@@ -23,7 +23,7 @@ pub record Eight (s : List ℕ) (at : ℕ) (w : List ℕ) : Type 0 where
   pub long : length w ≡ 8
   pub quads : (i : ℕ) → i < 8 → Quad s (at + 2 * i) (getD w i 0)
 
--- the words up to word k, of the 64 blocks at a place
+-- the words below word k, of the 64 blocks at a place
 pub record Read (s : List ℕ) (at k : ℕ) (y : List (List ℕ)) : Type 0 where
   pub shape : Words y
   pub quads : (c : ℕ) → c < k → (i : ℕ) → i < 8 → Quad s (at + 16 * c + 2 * i) (wordAt y c i)

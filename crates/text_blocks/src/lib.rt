@@ -117,7 +117,7 @@ pub fn pad(suite: Suite, key: [u8; 16], nonce: &[u8], m: usize, r: usize) -> [u8
     encipher_one(suite, key, t, length_block(r))
 }
 
-// How many bytes the last block of m has.
+// How many bytes the last block of m has; 0 where there is none.
 pub fn last_bytes(m: usize) -> usize
     ensures { λ r. ⌜ (r ≡ lastBytes m)
         × (r ≤ 16) ⌝ }

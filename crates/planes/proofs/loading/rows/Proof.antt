@@ -7,7 +7,16 @@ use Rattle.planes.proofs.loading.rows.Tie as tie
 
 returns : tie.Need-returns
 unfolding planesOf
-returns c = λ i. c .before .before .before .before .before .before .before .row .ensures i ∷ c .before .before .before .before .before .before .row2 .ensures i ∷ c .before .before .before .before .before .row3 .ensures i ∷ c .before .before .before .before .row4 .ensures i ∷ c .before .before .before .row5 .ensures i ∷ c .before .before .row6 .ensures i ∷ c .before .row7 .ensures i ∷ c .row8 .ensures i ∷ []
+returns c = λ i.
+    c .before .before .before .before .before .before .before .row .ensures i
+    ∷ c .before .before .before .before .before .before .row2 .ensures i
+    ∷ c .before .before .before .before .before .row3 .ensures i
+    ∷ c .before .before .before .before .row4 .ensures i
+    ∷ c .before .before .before .row5 .ensures i
+    ∷ c .before .before .row6 .ensures i
+    ∷ c .before .row7 .ensures i
+    ∷ c .row8 .ensures i
+    ∷ []
 
 pub rows-spec : {M : Type 1} → statement M
 rows-spec =

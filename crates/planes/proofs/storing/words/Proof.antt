@@ -11,8 +11,24 @@ column-requires-16 c κs = (c .before .before .before .before .before .before .b
 
 returns : tie.Need-returns
 unfolding wordsOf
-returns c =
-    λ i. c .before .before .before .before .before .before .before .before .before .before .before .before .before .before .before .column .ensures i ∷ c .before .before .before .before .before .before .before .before .before .before .before .before .before .before .column2 .ensures i ∷ c .before .before .before .before .before .before .before .before .before .before .before .before .before .column3 .ensures i ∷ c .before .before .before .before .before .before .before .before .before .before .before .before .column4 .ensures i ∷ c .before .before .before .before .before .before .before .before .before .before .before .column5 .ensures i ∷ c .before .before .before .before .before .before .before .before .before .before .column6 .ensures i ∷ c .before .before .before .before .before .before .before .before .before .column7 .ensures i ∷ c .before .before .before .before .before .before .before .before .column8 .ensures i ∷ c .before .before .before .before .before .before .before .column9 .ensures i ∷ c .before .before .before .before .before .before .column10 .ensures i ∷ c .before .before .before .before .before .column11 .ensures i ∷ c .before .before .before .before .column12 .ensures i ∷ c .before .before .before .column13 .ensures i ∷ c .before .before .column14 .ensures i ∷ c .before .column15 .ensures i ∷ c .column16 .ensures i ∷ []
+returns c = λ i.
+    c .before .before .before .before .before .before .before .before .before .before .before .before .before .before .before .column .ensures i
+    ∷ c .before .before .before .before .before .before .before .before .before .before .before .before .before .before .column2 .ensures i
+    ∷ c .before .before .before .before .before .before .before .before .before .before .before .before .before .column3 .ensures i
+    ∷ c .before .before .before .before .before .before .before .before .before .before .before .before .column4 .ensures i
+    ∷ c .before .before .before .before .before .before .before .before .before .before .before .column5 .ensures i
+    ∷ c .before .before .before .before .before .before .before .before .before .before .column6 .ensures i
+    ∷ c .before .before .before .before .before .before .before .before .before .column7 .ensures i
+    ∷ c .before .before .before .before .before .before .before .before .column8 .ensures i
+    ∷ c .before .before .before .before .before .before .before .column9 .ensures i
+    ∷ c .before .before .before .before .before .before .column10 .ensures i
+    ∷ c .before .before .before .before .before .column11 .ensures i
+    ∷ c .before .before .before .before .column12 .ensures i
+    ∷ c .before .before .before .column13 .ensures i
+    ∷ c .before .before .column14 .ensures i
+    ∷ c .before .column15 .ensures i
+    ∷ c .column16 .ensures i
+    ∷ []
 
 pub words-spec : {M : Type 1} → statement M
 words-spec =
