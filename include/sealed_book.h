@@ -12,11 +12,11 @@
  * which may take some KB more at the first call of these:
  *    1 KB  sb_start, sb_place, sb_units, sb_calls, sb_info, sb_unit, sb_unit_at, sb_ciphertext
  *    4 KB  sb_encipher, sb_decipher
- *   14 KB  sb_encipher_blocks, sb_decipher_blocks
- *   20 KB  sb_seal, sb_add, sb_close, sb_check
- *   28 KB  sb_open, sb_fetch, sb_fetch_at
+ *   10 KB  sb_encipher_blocks, sb_decipher_blocks
+ *   18 KB  sb_seal, sb_add, sb_close, sb_check
+ *   24 KB  sb_open, sb_fetch, sb_fetch_at
  *   56 KB  sb_score
- *   68 KB  sb_page
+ *   64 KB  sb_page
  *
  * Link with libsealed_book.a (x86-64 Linux).
  */

@@ -1,4 +1,4 @@
--- The header's calls with one more behind them, run at once: the header's sum, and the outcome of the one more.
+-- The header's calls, alone or with one more behind them, run at once: the header's sum, and the outcome of the one more.
 use mathlib.Core.Path.{_≡_, sym, ap, _∙_}
 use mathlib.Core.Bool.{Bool, true, false, cond}
 use mathlib.Core.List.{List, _++_, append-assoc}
@@ -50,6 +50,22 @@ module _ (k : ℕ) (g : ℕ → List ℕ) (long : (i : ℕ) → length (g i) ≡
       ap (λ (x : List ℕ). paste x (16 * k) b 16) (put-is k g (followed k g b) buffer (before k g b))
       ∙ put-more k (followed k g b) buffer (λ i h. followed-long i) b l (behind k g b)
 
+-- the header's calls alone
+pub sum-alone : (s : Suite) (key : List ℕ) {nonce : List ℕ} → Usable s nonce → (h x y : List ℕ) {o : List ℕ} → 16 * blocksOf (length h) ≤ length y
+    → let k = blocksOf (length h) in
+    o ≡ encipheredBlocks (s .cipher) (s .steps) key (take (16 * k) (putFirst k (tweakAt nonce h) x)) (putFirst k (blockAt nonce h) y)
+    → sumFrom (replicate 16 0) (length (take (16 * k) o) / 16) (block (take (16 * k) o)) ≡ headerSum (enciphers s key) nonce h
+unfolding putFirst headerSum headerCall
+sum-alone s key {nonce} u h x y {o} room e =
+    let k = blocksOf (length h) in
+    let call : ℕ → List ℕ = λ i. enciphers s key (tweakAt nonce h i) (blockAt nonce h i) in
+    let long : (i : ℕ) → length (tweakAt nonce h i) ≡ 16 = tweak-long nonce h (u .short) in
+    sum-strung (replicate 16 0) k call (drop (16 * k) y) o
+    (λ i m. enciphers-blockwise s key .long (tweakAt nonce h i) (blockAt nonce h i) (long i) (block-whole nonce h i))
+    (e ∙ put-enciphered s key (u .suite) k (tweakAt nonce h) (blockAt nonce h) x y long (λ i m. block-whole nonce h i) room)
+    ∙ sum-of k call
+
+-- and one more behind them
 module _ (s : Suite) (key : List ℕ) {nonce : List ℕ} (u : Usable s nonce) (h tweak b : List ℕ) (tl : length tweak ≡ 16) (bl : length b ≡ 16) where
   abbrev k : ℕ
   k = blocksOf (length h)

@@ -34,19 +34,21 @@ module _ (k n : ℕ) (g f : ℕ → List ℕ) (b : List ℕ) (lg : (i : ℕ) →
   both-long : length (strung k g ++ strung n f) ≡ 16 * k + 16 * n
   both-long = length-append (strung k g) (strung n f) ∙ omega (arith, strung-whole k g lg, strung-whole n f lf)
 
-  -- they are put so: x has the k, y has the n, where x went on
-  pub in-turn : (buffer x y : List ℕ) → x ≡ putFirst k g buffer → y ≡ putFirst n f (take (length x - 16 * k) (drop (16 * k) x))
-      → paste (take (16 * k) x ++ (y ++ drop (length x - 16 * k) (drop (16 * k) x))) (16 * k + 16 * n) b 16
-      ≡ strung k g ++ strung n f ++ b ++ drop (16 * (k + n + 1)) buffer
+  -- they are put so: x has the k, up to `at`, y has the n, where x went on, up to `end`
+  pub in-turn : (at end : ℕ) → at ≡ 16 * k → end ≡ at + 16 * n → (buffer x y : List ℕ)
+      → x ≡ putFirst k g buffer → y ≡ putFirst n f (take (length x - at) (drop at x))
+      → paste (take at x ++ (y ++ drop (length x - at) (drop at x))) end b 16 ≡ strung k g ++ strung n f ++ b ++ drop (16 * (k + n + 1)) buffer
   unfolding putFirst
-  in-turn buffer x y ex ey =
+  in-turn at end is-at is-end buffer x y ex ey =
       let rest = drop (16 * n) (drop (16 * k) buffer) in
-      let tail : drop (16 * k) x ≡ drop (16 * k) buffer = ap (drop (16 * k)) ex ∙ put-rest k g buffer lg in
-      let second : y ≡ strung n f ++ rest = ey ∙ ap (putFirst n f) (part-rest (16 * k) x ∙ tail) in
+      let front : take at x ≡ strung k g = (λ j. take (is-at j) (ex j)) ∙ put-front k g buffer lg in
+      let tail : drop at x ≡ drop (16 * k) buffer = (λ j. drop (is-at j) (ex j)) ∙ put-rest k g buffer lg in
+      let second : y ≡ strung n f ++ rest = ey ∙ ap (putFirst n f) (part-rest at x ∙ tail) in
+      let place : end ≡ 16 * k + 16 * n = omega arith in
       let all : 16 * k + 16 * n + 16 ≡ 16 * (k + n + 1) = omega arith in
       let behind : drop 16 rest ≡ drop (16 * (k + n + 1)) buffer =
       ap (drop 16) (drop-drop (16 * n) (16 * k) buffer) ∙ drop-drop 16 (16 * k + 16 * n) buffer ∙ ap (λ (j : ℕ). drop j buffer) all in
-      (λ j. paste ((ap (take (16 * k)) ex ∙ put-front k g buffer lg) j ++ (second j ++ part-none (16 * k) x j)) (16 * k + 16 * n) b 16)
+      (λ j. paste (front j ++ (second j ++ part-none at x j)) (place j) b 16)
       ∙ ap (λ (z : List ℕ). paste z (16 * k + 16 * n) b 16)
       (ap (λ (z : List ℕ). strung k g ++ z) (append-nil (strung n f ++ rest)) ∙ sym (append-assoc (strung k g) (strung n f) rest))
       ∙ pasted-behind (strung k g ++ strung n f) rest b (16 * k + 16 * n) both-long lb
@@ -154,99 +156,98 @@ module _ (nonce : List ℕ) (short : length nonce ≤ 15) (h check : List ℕ) (
   tag-tweak-long : length tagTweak ≡ 16
   tag-tweak-long = length-tweak nonce (tagMark m) 0 (omega arith)
 
-  pub tweaks-in-turn : (buffer x y : List ℕ) → x ≡ putFirst k headerTweaks buffer
-      → y ≡ putFirst n textTweaks (take (length x - 16 * k) (drop (16 * k) x))
-      → paste (take (16 * k) x ++ (y ++ drop (length x - 16 * k) (drop (16 * k) x))) (16 * k + 16 * n) tagTweak 16
-      ≡ strung k headerTweaks ++ strung n textTweaks ++ tagTweak ++ drop (16 * (k + n + 1)) buffer
-  tweaks-in-turn = in-turn k n headerTweaks textTweaks tagTweak header-tweak-long next-tweak-long tag-tweak-long
+  -- the places behind the header's calls and behind the text's
+  module _ (at-text at-tag : ℕ) (text-there : at-text ≡ 16 * k) (tag-there : at-tag ≡ at-text + 16 * n) where
+    pub tweaks-in-turn : (buffer x y : List ℕ) → x ≡ putFirst k headerTweaks buffer
+        → y ≡ putFirst n textTweaks (take (length x - at-text) (drop at-text x))
+        → paste (take at-text x ++ (y ++ drop (length x - at-text) (drop at-text x))) at-tag tagTweak 16
+        ≡ strung k headerTweaks ++ strung n textTweaks ++ tagTweak ++ drop (16 * (k + n + 1)) buffer
+    tweaks-in-turn =
+        in-turn k n headerTweaks textTweaks tagTweak header-tweak-long next-tweak-long tag-tweak-long at-text at-tag text-there tag-there
 
-  pub blocks-in-turn : (buffer x y : List ℕ) → x ≡ putFirst k headerBlocks buffer
-      → y ≡ putFirst n textBlocks (take (length x - 16 * k) (drop (16 * k) x))
-      → paste (take (16 * k) x ++ (y ++ drop (length x - 16 * k) (drop (16 * k) x))) (16 * k + 16 * n) check 16
-      ≡ strung k headerBlocks ++ strung n textBlocks ++ check ++ drop (16 * (k + n + 1)) buffer
-  blocks-in-turn = in-turn k n headerBlocks textBlocks check header-block-long next-block-long whole
+    pub blocks-in-turn : (buffer x y : List ℕ) → x ≡ putFirst k headerBlocks buffer
+        → y ≡ putFirst n textBlocks (take (length x - at-text) (drop at-text x))
+        → paste (take at-text x ++ (y ++ drop (length x - at-text) (drop at-text x))) at-tag check 16
+        ≡ strung k headerBlocks ++ strung n textBlocks ++ check ++ drop (16 * (k + n + 1)) buffer
+    blocks-in-turn = in-turn k n headerBlocks textBlocks check header-block-long next-block-long whole at-text at-tag text-there tag-there
 
-  -- of the tweaks x and the blocks y, the outcomes o
-  module _ (s : Suite) (key : List ℕ) (l : listed (s .cipher) (s .steps) ≡ true) (x y o behind-x behind-y : List ℕ)
-      (tweaks : x ≡ strung k headerTweaks ++ strung n textTweaks ++ tagTweak ++ behind-x)
-      (blocks : y ≡ strung k headerBlocks ++ strung n textBlocks ++ check ++ behind-y)
-      (run : o ≡ encipheredBlocks (s .cipher) (s .steps) key (take (16 * k + 16 * n + 16) x) y)
-      (room-x : 16 * k + 16 * n + 16 ≤ length x) (room-y : 16 * k + 16 * n + 16 ≤ length y) where
-    abbrev e : List ℕ → List ℕ → List ℕ
-    e = enciphers s key
+    -- of the tweaks x and the blocks y, the outcomes o
+    module _ (s : Suite) (key : List ℕ) (l : listed (s .cipher) (s .steps) ≡ true) (x y o behind-x behind-y : List ℕ)
+        (tweaks : x ≡ strung k headerTweaks ++ strung n textTweaks ++ tagTweak ++ behind-x)
+        (blocks : y ≡ strung k headerBlocks ++ strung n textBlocks ++ check ++ behind-y)
+        (run : o ≡ encipheredBlocks (s .cipher) (s .steps) key (take (at-tag + 16) x) y)
+        (room-x : at-tag + 16 ≤ length x) (room-y : at-tag + 16 ≤ length y) where
+      abbrev e : List ℕ → List ℕ → List ℕ
+      e = enciphers s key
 
-    outcomes-long : length o ≡ length y
-    outcomes-long = ap length run ∙ enciphered-long s key l (take (16 * k + 16 * n + 16) x) y
+      -- the text's outcomes
+      abbrev part : List ℕ
+      part = take (at-tag - at-text) (drop at-text o)
 
-    outcome : (i : ℕ) → i < k + n + 1 → block o i ≡ e (block x i) (block y i)
-    outcome i h =
-        let all : 16 * k + 16 * n + 16 ≡ 16 * (k + n + 1) = omega arith in
-        ap (λ (z : List ℕ). block z i) (run ∙ ap (λ (j : ℕ). encipheredBlocks (s .cipher) (s .steps) key (take j x) y) all)
-        ∙ enciphered-block s key l (take (16 * (k + n + 1)) x) y i (omega (arith, length-take-le (16 * (k + n + 1)) x (omega arith)))
-        ∙ ap (λ (z : List ℕ). e z (block y i)) (block-taken (k + n + 1) x (omega arith) i h)
+      outcomes-long : length o ≡ length y
+      outcomes-long = ap length run ∙ enciphered-long s key l (take (at-tag + 16) x) y
 
-    first-outcome : (i : ℕ) → i < k → block o i ≡ e (headerTweaks i) (headerBlocks i)
-    first-outcome i h =
-        outcome i (omega arith)
-        ∙ (λ j. e
-        (first-block k n headerTweaks textTweaks tagTweak header-tweak-long next-tweak-long tag-tweak-long behind-x x tweaks i h j)
-        (first-block k n headerBlocks textBlocks check header-block-long next-block-long whole behind-y y blocks i h j))
+      outcome : (i : ℕ) → i < k + n + 1 → block o i ≡ e (block x i) (block y i)
+      outcome i h =
+          let all : at-tag + 16 ≡ 16 * (k + n + 1) = omega arith in
+          ap (λ (z : List ℕ). block z i) (run ∙ ap (λ (j : ℕ). encipheredBlocks (s .cipher) (s .steps) key (take j x) y) all)
+          ∙ enciphered-block s key l (take (16 * (k + n + 1)) x) y i (omega (arith, length-take-le (16 * (k + n + 1)) x (omega arith)))
+          ∙ ap (λ (z : List ℕ). e z (block y i)) (block-taken (k + n + 1) x (omega arith) i h)
 
-    next-outcome : (i : ℕ) → i < n → block o (k + i) ≡ e (textTweaks i) (textBlocks i)
-    next-outcome i h =
-        outcome (k + i) (omega arith)
-        ∙ (λ j. e
-        (next-block k n headerTweaks textTweaks tagTweak header-tweak-long next-tweak-long tag-tweak-long behind-x x tweaks i h j)
-        (next-block k n headerBlocks textBlocks check header-block-long next-block-long whole behind-y y blocks i h j))
+      first-outcome : (i : ℕ) → i < k → block o i ≡ e (headerTweaks i) (headerBlocks i)
+      first-outcome i h =
+          outcome i (omega arith)
+          ∙ (λ j. e
+          (first-block k n headerTweaks textTweaks tagTweak header-tweak-long next-tweak-long tag-tweak-long behind-x x tweaks i h j)
+          (first-block k n headerBlocks textBlocks check header-block-long next-block-long whole behind-y y blocks i h j))
 
-    -- "all enciphered header blocks", added up
-    sum-is : sumFrom (replicate 16 0) (length (take (16 * k) o) / 16) (block (take (16 * k) o)) ≡ headerSum e nonce h
-    unfolding headerSum headerCall
-    sum-is = sum-blocks k o (λ i. e (headerTweaks i) (headerBlocks i)) (omega (arith, outcomes-long)) first-outcome
+      next-outcome : (i : ℕ) → i < n → block o (k + i) ≡ e (textTweaks i) (textBlocks i)
+      next-outcome i h =
+          outcome (k + i) (omega arith)
+          ∙ (λ j. e
+          (next-block k n headerTweaks textTweaks tagTweak header-tweak-long next-tweak-long tag-tweak-long behind-x x tweaks i h j)
+          (next-block k n headerBlocks textBlocks check header-block-long next-block-long whole behind-y y blocks i h j))
 
-    -- the text's
-    part-block : (i : ℕ) → i < n → block (take (16 * k + 16 * n - 16 * k) (drop (16 * k) o)) i ≡ e (textTweaks i) (textBlocks i)
-    part-block i h =
-        let long : 16 * k + 16 * n - 16 * k ≡ 16 * n = omega arith in
-        ap (λ (j : ℕ). block (take j (drop (16 * k) o)) i) long
-        ∙ block-taken n (drop (16 * k) o) (rw length-drop (omega (arith, outcomes-long))) i h
-        ∙ block-later k i o
-        ∙ next-outcome i h
+      -- "all enciphered header blocks", added up
+      sum-is : sumFrom (replicate 16 0) (length (take at-text o) / 16) (block (take at-text o)) ≡ headerSum e nonce h
+      unfolding headerSum headerCall
+      sum-is =
+          ap (λ (j : ℕ). sumFrom (replicate 16 0) (length (take j o) / 16) (block (take j o))) text-there
+          ∙ sum-blocks k o (λ i. e (headerTweaks i) (headerBlocks i)) (omega (arith, outcomes-long)) first-outcome
 
-    text-is : strung n
-        (λ i.
-        cond (inner m (first + i)) (block (take (16 * k + 16 * n - 16 * k) (drop (16 * k) o)) i)
-        (added (block text i) (block (take (16 * k + 16 * n - 16 * k) (drop (16 * k) o)) i)))
-        ≡ through e e nonce m first text
-    unfolding through
-    text-is =
-        let p = take (16 * k + 16 * n - 16 * k) (drop (16 * k) o) in
-        strung-ext n (λ i. cond (inner m (first + i)) (block p i) (added (block text i) (block p i)))
-        (λ i. piece e e nonce m (first + i) (block text i))
-        (λ i h.
-        ap (λ (z : List ℕ). cond (inner m (first + i)) z (added (block text i) z)) (part-block i h) ∙ piece-is e nonce m (first + i) (block text i))
+      part-block : (i : ℕ) → i < n → block part i ≡ e (textTweaks i) (textBlocks i)
+      part-block i h =
+          let long : at-tag - at-text ≡ 16 * n = omega arith in
+          (λ j. block (take (long j) (drop (text-there j) o)) i)
+          ∙ block-taken n (drop (16 * k) o) (rw length-drop (omega (arith, outcomes-long))) i h
+          ∙ block-later k i o
+          ∙ next-outcome i h
 
-    -- the tag's
-    tag-outcome : take 16 (drop (16 * k + 16 * n) o) ≡ e tagTweak check
-    tag-outcome =
-        let at : 16 * k + 16 * n ≡ 16 * (k + n) = omega arith in
-        ap (λ (j : ℕ). take 16 (drop j o)) at
-        ∙ outcome (k + n) (omega arith)
-        ∙ (λ j. e
-        (last-block k n headerTweaks textTweaks tagTweak header-tweak-long next-tweak-long tag-tweak-long behind-x x tweaks j)
-        (last-block k n headerBlocks textBlocks check header-block-long next-block-long whole behind-y y blocks j))
+      text-is : strung n (λ i. cond (inner m (first + i)) (block part i) (added (block text i) (block part i))) ≡ through e e nonce m first text
+      unfolding through
+      text-is =
+          strung-ext n (λ i. cond (inner m (first + i)) (block part i) (added (block text i) (block part i)))
+          (λ i. piece e e nonce m (first + i) (block text i))
+          (λ i h.
+          ap (λ (z : List ℕ). cond (inner m (first + i)) z (added (block text i) z)) (part-block i h) ∙ piece-is e nonce m (first + i) (block text i))
 
-    -- the tag, and the text in its place
-    pub run-is :
-        (added (take 16 (drop (16 * k + 16 * n) o)) (sumFrom (replicate 16 0) (length (take (16 * k) o) / 16) (block (take (16 * k) o)))
-        ≡ tagFrom e nonce m check (headerSum e nonce h))
-        × (strung n
-        (λ i.
-        cond (inner m (first + i)) (block (take (16 * k + 16 * n - 16 * k) (drop (16 * k) o)) i)
-        (added (block text i) (block (take (16 * k + 16 * n - 16 * k) (drop (16 * k) o)) i)))
-        ≡ through e e nonce m first text)
-    unfolding tagFrom
-    run-is = ((λ j. added (tag-outcome j) (sum-is j)), text-is)
+      -- the tag's
+      tag-outcome : take 16 (drop at-tag o) ≡ e tagTweak check
+      tag-outcome =
+          let at : at-tag ≡ 16 * (k + n) = omega arith in
+          ap (λ (j : ℕ). take 16 (drop j o)) at
+          ∙ outcome (k + n) (omega arith)
+          ∙ (λ j. e
+          (last-block k n headerTweaks textTweaks tagTweak header-tweak-long next-tweak-long tag-tweak-long behind-x x tweaks j)
+          (last-block k n headerBlocks textBlocks check header-block-long next-block-long whole behind-y y blocks j))
+
+      -- the tag, and the text in its place
+      pub run-is :
+          (added (take 16 (drop at-tag o)) (sumFrom (replicate 16 0) (length (take at-text o) / 16) (block (take at-text o)))
+          ≡ tagFrom e nonce m check (headerSum e nonce h))
+          × (strung n (λ i. cond (inner m (first + i)) (block part i) (added (block text i) (block part i))) ≡ through e e nonce m first text)
+      unfolding tagFrom
+      run-is = ((λ j. added (tag-outcome j) (sum-is j)), text-is)
 
 -- the header's sum, added after a run without a header
 pub tag-later : (e : List ℕ → List ℕ → List ℕ) → Blockwise e → (nonce : List ℕ) → length nonce ≤ 15 → (m : ℕ) (check sum : List ℕ) → length check ≡ 16

@@ -28,7 +28,7 @@ pub fn put(nonce: &[u8], header: &[u8], tweaks: &mut [u8], blocks: &mut [u8])
     blockwise::put_at(
         tweaks,
         at,
-        tweak::special_tweak(nonce, text_blocks::mark(a, 0xD0, 0xD8)),
+        tweak::special_tweak(nonce, text_blocks::marks::last_header_mark(a)),
     );
     blockwise::copy(&header[..at], blocks);
     blockwise::put_at(blocks, at, sums::fill(&header[at..], 0x80));

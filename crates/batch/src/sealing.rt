@@ -9,7 +9,7 @@ ghost use Rattle.blockwise.specs.Blocks.{block, strung};
 ghost use Rattle.calls.specs.Calls.{headerCall};
 ghost use Rattle.calls.specs.Pieces.{through, headerSum, tagFrom};
 ghost use Rattle.calls.specs.Tweak.{specialTweak, blocksOf, tagMark};
-ghost use Rattle.text_blocks.specs.Text.{Usable, Part};
+ghost use Rattle.text_blocks.specs.Text.{Usable};
 ghost use Rattle.text_blocks.specs.Under.{enciphers};
 ghost use Rattle.batch.specs.Batch.{textTweakOf, textBlockOf};
 
@@ -26,7 +26,7 @@ fn put(
 )
     requires { ⌜ (length (now nonce) ≤ 15)
         × (length (now header) ≤ 2 ^ 24)
-        × Part m (first .0) (length (now s))
+        × (m ≤ 2 ^ 24)
         × (16 * first .0 + length (now s) ≡ m)
         × (16 * (blocksOf (length (now header)) + blocksOf (length (now s)) + 1) ≤ length (now tweaks))
         × (16 * (blocksOf (length (now header)) + blocksOf (length (now s)) + 1) ≤ length (now blocks)) ⌝ }
@@ -41,19 +41,19 @@ fn put(
         ++ checksum
         ++ drop (16 * (blocksOf (length (now (header .entry))) + blocksOf (length (now (s .entry))) + 1)) (now (blocks .entry))) ⌝ }
 {
-    let h = 16 * ((header.len() + 15) / 16);
-    let t = h + 16 * ((s.len() + 15) / 16);
+    let h = 16 * text_blocks::blocks_of(header.len());
+    let t = h + 16 * text_blocks::blocks_of(s.len());
     crate::header::put(nonce, header, tweaks, blocks);
     crate::text::put(nonce, m, first, s, &mut tweaks[h..], &mut blocks[h..]);
     blockwise::put_at(
         tweaks,
         t,
-        tweak::special_tweak(nonce, text_blocks::mark(m, 0xE0, 0xE8)),
+        tweak::special_tweak(nonce, text_blocks::marks::tag_mark(m)),
     );
     blockwise::put_at(blocks, t, checksum);
 }
 
-// The rest s of a text of m bytes, from block `first` on, enciphered in its place, and the tag; of a header of at most 60 blocks.
+// The rest s of a text of m bytes, from block `first` on, enciphered in its place, and the tag; of a header of at most 63 blocks.
 fn run(
     suite: Suite,
     key: [u8; 16],
@@ -65,8 +65,8 @@ fn run(
     s: &mut [u8],
 ) -> [u8; 16]
     requires { ⌜ Usable suite (now nonce)
-        × (length (now header) ≤ 960)
-        × Part m (first .0) (length (now s))
+        × (length (now header) ≤ 1008)
+        × (m ≤ 2 ^ 24)
         × (16 * first .0 + length (now s) ≡ m)
         × (length (now s) ≤ 1024) ⌝ }
     ensures { λ r. ⌜ (r ≡ tagFrom (enciphers suite key) (now (nonce .entry)) m checksum
@@ -75,8 +75,8 @@ fn run(
 {
     let mut tweaks = [0u8; 2048];
     let mut blocks = [0u8; 2048];
-    let h = 16 * ((header.len() + 15) / 16);
-    let t = h + 16 * ((s.len() + 15) / 16);
+    let h = 16 * text_blocks::blocks_of(header.len());
+    let t = h + 16 * text_blocks::blocks_of(s.len());
     put(
         nonce,
         header,
@@ -93,7 +93,7 @@ fn run(
     sums::add(blockwise::block_at(&blocks, t), sum)
 }
 
-// The same of any header: one of more than 60 blocks is added up before.
+// The same of any header: one of more than 63 blocks is added up before.
 pub fn rest(
     suite: Suite,
     key: [u8; 16],
@@ -106,14 +106,14 @@ pub fn rest(
 ) -> [u8; 16]
     requires { ⌜ Usable suite (now nonce)
         × (length (now header) ≤ 2 ^ 24)
-        × Part m (first .0) (length (now s))
+        × (m ≤ 2 ^ 24)
         × (16 * first .0 + length (now s) ≡ m)
         × (length (now s) ≤ 1024) ⌝ }
     ensures { λ r. ⌜ (r ≡ tagFrom (enciphers suite key) (now (nonce .entry)) m checksum
         (headerSum (enciphers suite key) (now (nonce .entry)) (now (header .entry))))
         × (now (s .exit) ≡ through (enciphers suite key) (enciphers suite key) (now (nonce .entry)) m (first .0) (now (s .entry))) ⌝ }
 {
-    if header.len() <= 960 {
+    if header.len() <= 1008 {
         return run(suite, key, nonce, header, m, checksum, first, s);
     }
     let sum = mode::header::sum(suite, key, nonce, header);

@@ -2,18 +2,17 @@
 use block_numbers::TextBlock;
 ghost use mathlib.Core.Bool.{cond};
 ghost use mathlib.Core.Path.{_≡_};
-ghost use Prim.Native.Nat.{_+_, _*_, _≤_};
+ghost use Prim.Native.Nat.{_+_, _*_, _^_, _≤_};
 ghost use lib.ListN.{length};
 ghost use Rattle.bits.specs.Bytes.{added};
 ghost use Rattle.blockwise.specs.Blocks.{block, strung};
 ghost use Rattle.calls.specs.Tweak.{blocksOf, inner};
-ghost use Rattle.text_blocks.specs.Text.{Part};
 ghost use Rattle.batch.specs.Batch.{putFirst, textTweakOf, textBlockOf};
 
 // Of the rest s of a text of m bytes, from block `first` on: the calls' tweaks and blocks at the start of two buffers.
 pub fn put(nonce: &[u8], m: usize, first: TextBlock, s: &[u8], tweaks: &mut [u8], blocks: &mut [u8])
     requires { ⌜ (length (now nonce) ≤ 15)
-        × Part m (first .0) (length (now s))
+        × (m ≤ 2 ^ 24)
         × (16 * first .0 + length (now s) ≡ m)
         × (16 * blocksOf (length (now s)) ≤ length (now tweaks))
         × (16 * blocksOf (length (now s)) ≤ length (now blocks)) ⌝ }
@@ -32,7 +31,7 @@ pub fn put(nonce: &[u8], m: usize, first: TextBlock, s: &[u8], tweaks: &mut [u8]
     blockwise::put_at(
         tweaks,
         at,
-        tweak::special_tweak(nonce, text_blocks::mark(m, 0xC0, 0xC8)),
+        tweak::special_tweak(nonce, text_blocks::marks::last_text_mark(m)),
     );
     blockwise::copy(&s[..at], blocks);
     blockwise::put_at(blocks, at, text_blocks::length_block(n - at));
@@ -40,8 +39,7 @@ pub fn put(nonce: &[u8], m: usize, first: TextBlock, s: &[u8], tweaks: &mut [u8]
 
 // What the calls gave, put in the text's place: a block that is not last becomes its outcome; to the last one its outcome is added.
 pub fn place(m: usize, first: TextBlock, s: &mut [u8], outcomes: &[u8])
-    requires { ⌜ Part m (first .0) (length (now s))
-        × (16 * first .0 + length (now s) ≡ m)
+    requires { ⌜ (16 * first .0 + length (now s) ≡ m)
         × (16 * blocksOf (length (now s)) ≤ length (now outcomes)) ⌝ }
     ensures { λ r. ⌜ now (s .exit) ≡ strung (blocksOf (length (now (s .entry))))
         (λ i. cond (inner m (first .0 + i)) (block (now (outcomes .entry)) i) (added (block (now (s .entry)) i) (block (now (outcomes .entry)) i))) ⌝ }

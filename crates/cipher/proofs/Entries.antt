@@ -44,13 +44,6 @@ listed-steps cipher n e =
         (either (eqb n a || eqb n b) (eqb n c) (either (eqb n a) (eqb n b) (is a ha) (is b hb)) (is c hc))
         (is d hd)
 
--- a run of all steps, of at most 14
-pub run-is : (f g : List ℕ → List ℕ → List ℕ) → ((t b : List ℕ) → f t b ≡ g t b) → (n : ℕ) → n ≤ 14 → (t b : List ℕ)
-    → eachUpTo14 (0 + n) f t b ≡ eachBlock g t b
-run-is f g same n h t b =
-    let few : leb (0 + n) 14 ≡ true = le-leb (0 + n) 14 (omega arith) in
-    λ i. cond (few i) (each-ext same t b i) b
-
 -- Many blocks under a suite, which are done by runs; `f` is a block's run, `g` what it is by definition.
 module _ (f g : Cipher → ℕ → List ℕ → List ℕ → List ℕ → List ℕ)
     (same : (c : Cipher) (n : ℕ) (key t b : List ℕ) → f c n key t b ≡ g c n key t b) (cipher n : ℕ) (key t b : List ℕ) where

@@ -14,7 +14,7 @@ pub struct Outcome {
     pub block: [u8; 16],
 }
 
-// Many blocks enciphered one after the other, with the L-box looked up in tables.
+// Blocks enciphered one after the other, with the L-box looked up in tables; `encipher` lends one.
 fn look_up_ahead(suite: Suite, key: [u8; 16], tweaks: &[u8], blocks: &mut [u8]) -> Answer
     ensures { λ r. ⌜ (r ≡ suiteAnswer (suite .cipher) (suite .steps))
         × (now (blocks .exit) ≡ encipheredBlocks (suite .cipher) (suite .steps) key (now (tweaks .entry)) (now (blocks .entry))) ⌝ }

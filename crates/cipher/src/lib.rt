@@ -1,4 +1,4 @@
 // The tweakable block ciphers Scream and iScream: one block, one step, and many blocks at once.
 pub mod block;
 pub mod blocks;
-pub mod many;
+mod many;

@@ -28,7 +28,7 @@ use Rattle.made_tables.specs.Boxes.{boxesAt, boxesOf, lboxPlace, sboxPlace, mat
 use Rattle.made_tables.proofs.Places.{lbox-rule, sbox-place, sbox-at, sbox-byte, through}
 use Rattle.planes.specs.Planes.{rowAt}
 use Rattle.plane_lbox.specs.Network.{timesAt}
-use Rattle.plane_lbox.proofs.Network.{row-lt}
+use Rattle.planes.proofs.Rows.{row-lt}
 use Rattle.plane_lbox.proofs.Layer.{row-times}
 use Rattle.rounds.specs.declared.Cipher.{Cipher}
 use Rattle.rounds.specs.declared.Cipher.the-variants.{Scream, IScream}

@@ -1,4 +1,4 @@
-// The entries of the tables as the ciphers themselves compute them: by the layers that enciphering and deciphering call, lent the
+// The entries of the tables as the ciphers themselves compute them: by the layers that a single block goes through, lent the
 // tables that those are lent. specs/TableLaw says that these are the paper's entries, and the made ones. So it does of those in on_planes, by
 // the boxes on planes, and of those in masked, by products.
 pub mod masked;

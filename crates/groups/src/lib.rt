@@ -26,15 +26,18 @@ fn group<'a>(
         × (at + 1024 ≤ length (now blocks)) ⌝ }
     ensures { λ r. ⌜ now (blocks .exit) ≡ fewAt (ciphered ahead k n key) 64 at (now (tweaks .entry)) (now (blocks .entry)) ⌝ }
 {
-    let mut t = planes::loading::load(tweaks, at);
-    let mut u = t;
-    let mut v = t;
-    plane_tweakeys::tweakeys::tweakey(k, 0, shared, &mut t);
-    plane_tweakeys::tweakeys::tweakey(k, 1, shared, &mut u);
-    plane_tweakeys::tweakeys::tweakey(k, 2, shared, &mut v);
-    let mut x = planes::loading::load(blocks, at);
+    let mut w = [[0u64; 16]; 8];
+    let mut t = [[0u64; 16]; 8];
+    let mut u = [[0u64; 16]; 8];
+    let mut v = [[0u64; 16]; 8];
+    planes::loading::load(tweaks, at, &mut w);
+    plane_tweakeys::tweakeys::tweakey(k, 0, shared, &w, &mut t);
+    plane_tweakeys::tweakeys::tweakey(k, 1, shared, &w, &mut u);
+    plane_tweakeys::tweakeys::tweakey(k, 2, shared, &w, &mut v);
+    let mut x = [[0u64; 16]; 8];
+    planes::loading::load(blocks, at, &mut x);
     plane_steps::turns(ahead, k, n, &mut x, &t, &u, &v);
-    planes::storing::store(&x, blocks, at);
+    planes::storing::store(&mut x, blocks, at);
 }
 
 // The first g groups.

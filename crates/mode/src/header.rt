@@ -73,6 +73,6 @@ pub fn sum(suite: Suite, key: [u8; 16], nonce: &[u8], header: &[u8]) -> [u8; 16]
     let whole = inner(suite, key, nonce, header, n);
     let at = 16 * n;
     let last = sums::fill(&header[at..], 0x80);
-    let t = tweak::special_tweak(nonce, text_blocks::mark(a, 0xD0, 0xD8));
+    let t = tweak::special_tweak(nonce, text_blocks::marks::last_header_mark(a));
     sums::add(whole, text_blocks::encipher_one(suite, key, t, last))
 }

@@ -18,7 +18,7 @@ pub fn make(
     requires { ⌜ Usable suite (now nonce) ⌝ }
     ensures { λ r. ⌜ r ≡ tagFrom (enciphers suite key) (now (nonce .entry)) m checksum sum ⌝ }
 {
-    let t = tweak::special_tweak(nonce, text_blocks::mark(m, 0xE0, 0xE8));
+    let t = tweak::special_tweak(nonce, text_blocks::marks::tag_mark(m));
     sums::add(text_blocks::encipher_one(suite, key, t, checksum), sum)
 }
 

@@ -2,15 +2,16 @@
 use block_numbers::TextBlock;
 use suites::suite::Suite;
 ghost use mathlib.Core.Path.{_≡_};
-ghost use Prim.Native.Nat.{_+_, _%_, _≤_};
+ghost use Prim.Native.Nat.{_+_, _%_, _≤_, _<_};
 ghost use lib.ListN.{length};
 ghost use Rattle.calls.specs.Sealing.{openingTag};
 ghost use Rattle.calls.specs.Tweak.{blocksOf};
 ghost use Rattle.text_blocks.specs.Text.{Part};
-ghost use Rattle.text_blocks.specs.Under.{enciphers, deciphers, padOf};
+ghost use Rattle.text_blocks.specs.Under.{enciphers, deciphers, padOf, PadFor};
 ghost use Rattle.sealing.specs.Passes.{Passable, textPart, textIn, textSum};
 
-// The text of a part of the ciphertext c, as long as `work` and from block `first` on, in `work`; `pad` is what is added to c's last block.
+// The text of a part of the ciphertext c, as long as `work` and from block `first` on, in `work`; `pad` is what is added to c's last block, and is
+// any where the part ends before that block.
 pub fn window(
     suite: Suite,
     key: [u8; 16],
@@ -22,7 +23,7 @@ pub fn window(
 )
     requires { ⌜ Passable suite (now nonce) (now c)
         × Part (length (now c)) (first .0) (length (now work))
-        × (pad ≡ padOf suite key (now nonce) (length (now c))) ⌝ }
+        × PadFor suite key (now nonce) (length (now c)) (first .0) (length (now work)) pad ⌝ }
     ensures { λ r. ⌜ now (work .exit) ≡ textPart suite key (now (nonce .entry)) (now (c .entry)) (first .0) (length (now (work .entry))) ⌝ }
 {
     let m = c.len();
@@ -45,7 +46,7 @@ fn add_window(
 ) -> [u8; 16]
     requires { ⌜ Passable suite (now nonce) (now c)
         × Part (length (now c)) (first .0) (length (now work))
-        × (pad ≡ padOf suite key (now nonce) (length (now c)))
+        × (0 < length (now c) → pad ≡ padOf suite key (now nonce) (length (now c)))
         × (sum ≡ textSum suite key (now nonce) (now c) (first .0)) ⌝ }
     ensures { λ r. ⌜ (r ≡ textSum suite key (now (nonce .entry)) (now (c .entry)) (first .0 + blocksOf (length (now (work .entry)))))
         × (now (work .exit) ≡ textPart suite key (now (nonce .entry)) (now (c .entry)) (first .0) (length (now (work .entry)))) ⌝ }
@@ -68,7 +69,7 @@ fn add_some(
     requires { ⌜ Passable suite (now nonce) (now c)
         × Part (length (now c)) (first .0) n
         × (n ≤ 1024)
-        × (pad ≡ padOf suite key (now nonce) (length (now c)))
+        × (0 < length (now c) → pad ≡ padOf suite key (now nonce) (length (now c)))
         × (sum ≡ textSum suite key (now nonce) (now c) (first .0)) ⌝ }
     ensures { λ r. ⌜ r ≡ textSum suite key (now (nonce .entry)) (now (c .entry)) (first .0 + blocksOf n) ⌝ }
 {
@@ -88,7 +89,7 @@ fn add_rest(
 ) -> [u8; 16]
     requires { ⌜ Passable suite (now nonce) (now c)
         × (first .0 ≤ blocksOf (length (now c)))
-        × (pad ≡ padOf suite key (now nonce) (length (now c)))
+        × (0 < length (now c) → pad ≡ padOf suite key (now nonce) (length (now c)))
         × (sum ≡ textSum suite key (now nonce) (now c) (first .0)) ⌝ }
     ensures { λ r. ⌜ r ≡ textSum suite key (now (nonce .entry)) (now (c .entry)) (blocksOf (length (now (c .entry)))) ⌝ }
 {
@@ -100,7 +101,7 @@ fn add_rest(
         let n = sealing::counts::lesser(m - at, 1024);
         let more = add_some(suite, key, nonce, c, next, n, pad, all);
         all = more;
-        next = next.after(sealing::counts::blocks_of(n));
+        next = next.after(text_blocks::blocks_of(n));
         at = next.place();
     }
     all
@@ -128,7 +129,7 @@ pub fn tag_of(
     let n = sealing::counts::lesser(m, work.len());
     let start = TextBlock::start();
     let first = add_window(suite, key, nonce, c, start, pad, [0u8; 16], &mut work[..n]);
-    let next = start.after(sealing::counts::blocks_of(n));
+    let next = start.after(text_blocks::blocks_of(n));
     let all = add_rest(suite, key, nonce, c, next, pad, first);
     mode::tag::make(suite, key, nonce, m, all, sum)
 }

@@ -1,3 +1,5 @@
+pub mod Tree
+pub mod Networks
 pub mod Network
 pub mod Tests
 pub mod Layer

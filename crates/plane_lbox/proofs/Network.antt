@@ -15,7 +15,9 @@ use Rattle.bits.proofs.Tests.{all, all-at}
 use Rattle.lbox.specs.Lbox.{times}
 use Rattle.lbox.proofs.Matrix.{Linear, linear-ext, times-linear}
 use Rattle.planes.specs.Planes.{rowAt}
-use Rattle.plane_lbox.specs.Network.{Tree, leaf, sum, eval, timesAt}
+use Rattle.planes.proofs.Rows.{row-lt, row-bit}
+use Rattle.plane_lbox.specs.Network.{timesAt}
+use Rattle.plane_lbox.proofs.Tree.{Tree, leaf, sum, eval}
 
 -- the trees give the bits of the product at each single bit
 abbrev pub right : List Tree → List (List ℕ) → Bool
@@ -49,15 +51,6 @@ product-bit-linear m i =
       sum = λ x y. ap (λ (z : ℕ). bit z i) (l .sum x y) ∙ bit-xor (times m x) (times m y) i;
     }
 
--- the bits b of the planes are the bits of row b
-row-bit : (r : List ℕ) (b j : ℕ) → j < 16 → bit (getD r j 0) b ≡ bit (rowAt r b) j
-unfolding rowAt
-row-bit r b j h = sym (bit-gather 16 (λ j. bit (getD r j 0) b) (λ j. bit-lt (getD r j 0) b) j h)
-
-pub row-lt : (r : List ℕ) (b : ℕ) → rowAt r b < 2 ^ 16
-unfolding rowAt
-row-lt r b = gather-lt 16 (λ j. bit (getD r j 0) b) (λ j. bit-lt (getD r j 0) b)
-
 module _ (m : List (List ℕ)) (ts : List Tree) (test : T (right ts m)) where
   -- tree i on the bits of one row is bit i of the product
   tree-is : (i : ℕ) → i < 16 → (x : ℕ) → x < 2 ^ 16 → eval (getD ts i (leaf 0)) (bit x) ≡ bit (times m x) i
@@ -78,7 +71,7 @@ module _ (m : List (List ℕ)) (ts : List Tree) (test : T (right ts m)) where
         bit-ext k (eval-lt t k (λ j. getD r j 0) words) (gather-lt k f bits)
         (λ b hb.
         eval-bit t (λ j. getD r j 0) b
-        ∙ eval-ext t (λ j. bit (getD r j 0) b) (bit (rowAt r b)) (row-bit r b)
+        ∙ eval-ext t (λ j. bit (getD r j 0) b) (bit (rowAt r b)) (λ j h. sym (row-bit r b j h))
         ∙ tree-is i hi (rowAt r b) (row-lt r b)
         ∙ sym (bit-gather k f bits b hb))
 

@@ -2,7 +2,7 @@
 use lib.Dec.{T}
 use Rattle.bits.specs.Bit.{bit}
 use Rattle.lbox.specs.Lbox
-use Rattle.plane_lbox.specs.Networks
+use Rattle.plane_lbox.proofs.Networks
 use Rattle.plane_lbox.proofs.Network.{right}
 
 pub scream-right : T (right Networks.scream Lbox.scream)

@@ -1,2 +1,1 @@
 pub mod Network
-pub mod Networks

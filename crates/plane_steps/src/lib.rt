@@ -77,7 +77,7 @@ fn two_rounds(ahead: bool, k: Cipher, x: &mut [[u64; 16]; 8], s: usize)
     }
 }
 
-// The n-th of three added.
+// The n-th of three added, from 0; from 2 on the third.
 fn add_held<'a>(
     x: &mut [[u64; 16]; 8],
     t: &'a [[u64; 16]; 8],

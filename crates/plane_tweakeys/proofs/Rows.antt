@@ -7,23 +7,16 @@ use lib.Bits.{bitXor, xor-lt}
 use lib.ListN.{getD}
 use lib.Pow.{pow-pos}
 use Rattle.bits.specs.Bit.{bit, gather}
-use Rattle.bits.proofs.Bits.{bit-lt, bit-of-zero, bit-not, bit-xor, bit-ext, bit-gather, gather-lt, gather-ext, gather-bit, two}
+use Rattle.bits.proofs.Bits.{bit-lt, bit-of-zero, bit-not, bit-xor, bit-ext, gather-ext, gather-bit, two}
 use Rattle.bits.proofs.Lists.{getD-tab}
 use Rattle.bits.proofs.Shifts.{gather-from}
 use Rattle.planes.specs.Planes.{rowAt}
+use Rattle.planes.proofs.Rows.{row-lt, row-bit}
 use Rattle.rounds.specs.Tweakey.{rotatedRow}
 use Rattle.plane_tweakeys.specs.Shared.{spread}
 use Rattle.plane_tweakeys.specs.PlaneRows.{addPlanes, rotatedPlanes}
 
 module _ (r : List ℕ) (b : ℕ) where
-  row-lt : rowAt r b < 2 ^ 16
-  unfolding rowAt
-  row-lt = gather-lt 16 (λ j. bit (getD r j 0) b) (λ j. bit-lt (getD r j 0) b)
-
-  row-bit : (j : ℕ) → j < 16 → bit (rowAt r b) j ≡ bit (getD r j 0) b
-  unfolding rowAt
-  row-bit = bit-gather 16 (λ j. bit (getD r j 0) b) (λ j. bit-lt (getD r j 0) b)
-
   -- planes one place up: the row rotated left by 1
   pub rotated-row : rowAt (rotatedPlanes r) b ≡ rotatedRow (rowAt r b)
   unfolding rowAt rotatedPlanes gather bit
@@ -31,12 +24,12 @@ module _ (r : List ℕ) (b : ℕ) where
     where
       low : gather 15 (λ j. bit (getD r j 0) b) ≡ rowAt r b % 32768
       low =
-          gather-ext 15 (λ j. bit (getD r j 0) b) (bit (rowAt r b)) (λ j h. sym (row-bit j (omega arith)))
+          gather-ext 15 (λ j. bit (getD r j 0) b) (bit (rowAt r b)) (λ j h. sym (row-bit r b j (omega arith)))
           ∙ gather-from 15 (rowAt r b) 0
           ∙ omega arith
 
       high : bit (getD r 15 0) b ≡ rowAt r b / 32768
-      high = sym (row-bit 15 (omega arith)) ∙ omega (arith, row-lt)
+      high = sym (row-bit r b 15 (omega arith)) ∙ omega (arith, row-lt r b)
 
 -- added planes hold added rows
 pub added-row : (r s : List ℕ) (b : ℕ) → rowAt (addPlanes r s) b ≡ bitXor (rowAt r b) (rowAt s b)

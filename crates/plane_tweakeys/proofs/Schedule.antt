@@ -6,18 +6,17 @@ use Prim.Native.Nat.{ℕ, _%_, _<_}
 use native.Mathlib.Omega.{arith}
 use lib.Dec.{eqb}
 use Rattle.planes.specs.Planes.{lane, Goes}
-use Rattle.planes.proofs.Goes.{goes-then, goes-as}
+use Rattle.planes.proofs.Goes.{goes-as}
 use Rattle.state.specs.Rows.{addRows}
 use Rattle.rounds.specs.Tweakey.{φs, rotated, screamTweakey, iscreamTweakey}
 use Rattle.plane_tweakeys.proofs.Ways.{rows-comm}
 
 module _ (key : List (List ℕ)) (s : ℕ) {t z : List (List ℕ)} where
-  pub scream-goes : {y : List (List ℕ)} → s < 3 → Goes (λ b. φs s) t y → Goes (λ b w. addRows w (lane key b)) y z
-      → Goes (λ b w. screamTweakey (lane key b) w s) t z
+  pub scream-goes : (n : ℕ) → s ≡ n → n < 3 → Goes (λ b w. addRows (φs n w) (lane key b)) t z → Goes (λ b w. screamTweakey (lane key b) w s) t z
   unfolding screamTweakey
-  scream-goes h p q =
-      let e : s ≡ s % 3 = omega arith in
-      goes-as (goes-then p q) (λ b l w. rows-comm (φs s w) (lane key b) ∙ ap (λ (n : ℕ). addRows (lane key b) (φs n w)) e)
+  scream-goes n e h p =
+      let m : n ≡ s % 3 = omega arith in
+      goes-as p (λ b l w. rows-comm (φs n w) (lane key b) ∙ ap (λ (i : ℕ). addRows (lane key b) (φs i w)) m)
 
   pub even-goes : s % 2 ≡ 0 → Goes (λ b w. addRows w (lane key b)) t z → Goes (λ b w. iscreamTweakey (lane key b) w s) t z
   unfolding iscreamTweakey

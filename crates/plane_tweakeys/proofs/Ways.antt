@@ -1,22 +1,27 @@
 -- Eight rows of planes together: how each of the 64 states goes.
 use mathlib.Core.Path.{_≡_, refl, sym, ap, subst, _∙_}
-use mathlib.Core.List.{List, [], _++_}
+use mathlib.Core.List.{List, [], _∷_, _++_}
 use Prim.Native.Nat.{ℕ, zero, suc, _+_, _^_, _<_}
-use native.Mathlib.Numerals.{add-one}
 use native.Mathlib.Omega.{arith}
 use lib.Bits.{bitXor, xor-comm}
 use lib.ListN.{length, getD, set, length-set}
 use lib.Seq.{getD-set-same, getD-set-other}
 use Rattle.bits.specs.Table.{tab}
+use Rattle.bits.proofs.Bits.{xor-twice}
 use Rattle.bits.proofs.Elements.{tab-long, tab-at, tab-of}
 use Rattle.bits.proofs.Lists.{getD-tab, tab-ext, tab-getD}
 use Rattle.planes.specs.Planes.{rowAt, lane, Shaped, Goes}
+use Rattle.planes.proofs.Goes.{goes-then}
 use Rattle.state.specs.Rows.{addRows}
 use Rattle.rounds.specs.Cipher.{addConstant}
 use Rattle.rounds.specs.Tweakey.{φ, rotated, rotatedRow}
 use Rattle.plane_tweakeys.specs.Shared.{Shared, spread}
 use Rattle.plane_tweakeys.specs.PlaneRows.{addPlanes, rotatedPlanes}
 use Rattle.plane_tweakeys.proofs.Rows.{added-row, rotated-row, spread-row}
+
+-- a + b + a is b
+xor-between : (a b : ℕ) → bitXor (bitXor a b) a ≡ b
+xor-between a b = ap (λ (n : ℕ). bitXor n a) (xor-comm a b) ∙ xor-twice b a
 
 pub rows-comm : (x y : List ℕ) → addRows x y ≡ addRows y x
 unfolding addRows
@@ -88,30 +93,14 @@ spread-shared w l f e =
       lanes = λ b hb. tab-lane (λ i. spread (getD w i 0)) b (λ i. getD w i 0) (λ i h. spread-row (getD w i 0) (f i) b hb) ∙ tab-getD 8 w l;
     })
 
--- rows i and i + 4 as φ has them
-abbrev turn : ℕ → List (List ℕ) → List (List ℕ)
-turn i x = set (set x i (addPlanes (getD x i []) (getD x (i + 4) []))) (i + 4) (getD x i [])
-
--- the first i turns
-abbrev pub turned : ℕ → List (List ℕ) → List (List ℕ)
-turned zero x = x
-turned (suc i) x = turn i (turned i x)
-
-pub turned-more : (i : ℕ) (t : List (List ℕ)) {x : List (List ℕ)} {y : List ℕ} → x ≡ turned i t → y ≡ addPlanes (getD x i []) (getD x (i + 4) [])
-    → set (set x i y) (i + 4) (getD x i []) ≡ turned (i + 1) t
-turned-more i t {x} e p = rw add-one (ap (λ (r : List ℕ). set (set x i r) (i + 4) (getD x i [])) p ∙ ap (turn i) e)
-
--- φ on each state, when all four are done
-abbrev phiOf : List (List ℕ) → List (List ℕ)
+-- φ on each state
+abbrev pub phiOf : List (List ℕ) → List (List ℕ)
 phiOf t = tab 4 (λ i. addPlanes (getD t i []) (getD t (i + 4) [])) ++ tab 4 (λ i. getD t i [])
 
-turned-all : (t : List (List ℕ)) → length t ≡ 8 → turned 4 t ≡ phiOf t
-turned-all t l = subst (λ (z : List (List ℕ)). turned 4 z ≡ phiOf z) (tab-of [] 8 t l) refl
-
-pub phi-goes : {t y : List (List ℕ)} → Shaped t → y ≡ turned 4 t → Goes (λ b. φ) t y
+pub phi-goes : {t y : List (List ℕ)} → Shaped t → y ≡ phiOf t → Goes (λ b. φ) t y
 unfolding addPlanes lane φ
 phi-goes {t} s e =
-    rw (e ∙ turned-all t (s .long))
+    rw e
     (record {
       shape = record { long = refl; wide = wide };
       lanes = λ b hb. cc (sum 0 b, sum 1 b, sum 2 b, sum 3 b);
@@ -126,6 +115,49 @@ phi-goes {t} s e =
     wide (suc (suc zero)) h = refl
     wide (suc (suc (suc zero))) h = refl
     wide (suc (suc (suc (suc i)))) h = ap length (tab-at [] 4 (λ i. getD t i []) i (omega arith)) ∙ s .wide i (omega arith)
+
+-- φ, and t's states added
+pub phi-added-goes : (t : List (List ℕ)) {x y : List (List ℕ)} → Shaped x
+    → y ≡ tab 8 (λ i. addPlanes (getD (phiOf x) i []) (getD t i [])) → Goes (λ b w. addRows (φ w) (lane t b)) x y
+phi-added-goes t s e = goes-then (phi-goes s refl) (added-goes t e)
+
+-- φ twice, and t's states added
+pub phi-phi-added-goes : (t : List (List ℕ)) {x y : List (List ℕ)} → Shaped x
+    → y ≡ tab 4 (λ i. addPlanes (getD x (i + 4) []) (getD t i []))
+    ++ tab 4 (λ i. addPlanes (addPlanes (getD x i []) (getD x (i + 4) [])) (getD t (i + 4) []))
+    → Goes (λ b w. addRows (φ (φ w)) (lane t b)) x y
+unfolding addPlanes lane φ addRows
+phi-phi-added-goes t {x} s e =
+    rw e
+    (record {
+      shape = record { long = refl; wide = wide };
+      lanes = λ b hb. λ k. first 0 b k ∷ first 1 b k ∷ first 2 b k ∷ first 3 b k ∷ second 0 b k ∷ second 1 b k ∷ second 2 b k ∷ second 3 b k ∷ [];
+    })
+  where
+    row : List (List ℕ) → ℕ → ℕ → ℕ
+    row x i b = rowAt (getD x i []) b
+
+    first : (i b : ℕ) → rowAt (addPlanes (getD x (i + 4) []) (getD t i [])) b
+        ≡ bitXor (bitXor (bitXor (row x i b) (row x (i + 4) b)) (row x i b)) (row t i b)
+    first i b =
+        added-row (getD x (i + 4) []) (getD t i []) b
+        ∙ ap (λ (n : ℕ). bitXor n (row t i b)) (sym (xor-between (row x i b) (row x (i + 4) b)))
+
+    second : (i b : ℕ) → rowAt (addPlanes (addPlanes (getD x i []) (getD x (i + 4) [])) (getD t (i + 4) [])) b
+        ≡ bitXor (bitXor (row x i b) (row x (i + 4) b)) (row t (i + 4) b)
+    second i b =
+        added-row (addPlanes (getD x i []) (getD x (i + 4) [])) (getD t (i + 4) []) b
+        ∙ ap (λ (n : ℕ). bitXor n (row t (i + 4) b)) (added-row (getD x i []) (getD x (i + 4) []) b)
+
+    wide : (i : ℕ) → i < 8
+        → length (getD (tab 4 (λ i. addPlanes (getD x (i + 4) []) (getD t i []))
+        ++ tab 4 (λ i. addPlanes (addPlanes (getD x i []) (getD x (i + 4) [])) (getD t (i + 4) []))) i []) ≡ 16
+    wide zero h = refl
+    wide (suc zero) h = refl
+    wide (suc (suc zero)) h = refl
+    wide (suc (suc (suc zero))) h = refl
+    wide (suc (suc (suc (suc i)))) h =
+        ap length (tab-at [] 4 (λ i. addPlanes (addPlanes (getD x i []) (getD x (i + 4) [])) (getD t (i + 4) [])) i (omega arith))
 
 -- each row of each state rotated
 pub rotated-goes : {t y : List (List ℕ)} → y ≡ tab 8 (λ i. rotatedPlanes (getD t i [])) → Goes (λ b. rotated) t y

@@ -1,5 +1,6 @@
 // Sums of states, sixty-four side by side.
 ghost use mathlib.Core.Path.{_≡_};
+ghost use lib.ListN.{length};
 ghost use Rattle.planes.specs.Planes.{Shaped, Goes, lane};
 ghost use Rattle.state.specs.Rows.{addRows};
 ghost use Rattle.rounds.specs.Cipher.{addConstant};
@@ -43,6 +44,23 @@ pub fn add<'a>(x: &mut [[u64; 16]; 8], t: &'a [[u64; 16]; 8])
         x[i] = y;
         i += 1;
     }
+}
+
+// x and t added, each state to its own, in y.
+pub fn sum<'a>(x: &'a [[u64; 16]; 8], t: &'a [[u64; 16]; 8], y: &mut [[u64; 16]; 8])
+    requires { ⌜ Shaped (now x)
+        × Shaped (now t)
+        × (length (now y) ≡ 8) ⌝ }
+    ensures { λ r. ⌜ Goes (λ b w. addRows w (lane (now (t .entry)) b)) (now (x .entry)) (now (y .exit)) ⌝ }
+{
+    y[0] = add_row(x[0], t[0]);
+    y[1] = add_row(x[1], t[1]);
+    y[2] = add_row(x[2], t[2]);
+    y[3] = add_row(x[3], t[3]);
+    y[4] = add_row(x[4], t[4]);
+    y[5] = add_row(x[5], t[5]);
+    y[6] = add_row(x[6], t[6]);
+    y[7] = add_row(x[7], t[7]);
 }
 
 // A round constant added to every state.

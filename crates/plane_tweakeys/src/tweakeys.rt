@@ -1,40 +1,48 @@
 // The tweakeys of sixty-four tweaks under one key.
-use crate::sums::add;
 use crate::sums::add_row;
+use crate::sums::sum;
 use rounds::Cipher;
 ghost use mathlib.Core.Path.{_≡_};
 ghost use Prim.Native.Nat.{_<_};
+ghost use lib.ListN.{length};
 ghost use Rattle.planes.specs.Planes.{Shaped, Goes, lane};
-ghost use Rattle.rounds.specs.Tweakey.{φ, φs, rotated};
+ghost use Rattle.state.specs.Rows.{addRows};
+ghost use Rattle.rounds.specs.Tweakey.{φ, rotated};
 ghost use Rattle.rounds.specs.Cipher.{parts};
 ghost use Rattle.plane_tweakeys.specs.PlaneRows.{rotatedPlanes};
 
-// φ on each state.
-fn phi(x: &mut [[u64; 16]; 8])
-    requires { ⌜ Shaped (now x) ⌝ }
-    ensures { λ r. ⌜ Goes (λ b. φ) (now (x .entry)) (now (x .exit)) ⌝ }
+// φ of each state, and the key added, in y.
+fn phi_sum<'a>(x: &'a [[u64; 16]; 8], key: &'a [[u64; 16]; 8], y: &mut [[u64; 16]; 8])
+    requires { ⌜ Shaped (now x)
+        × Shaped (now key)
+        × (length (now y) ≡ 8) ⌝ }
+    ensures { λ r. ⌜ Goes (λ b w. addRows (φ w) (lane (now (key .entry)) b)) (now (x .entry)) (now (y .exit)) ⌝ }
 {
-    let mut i: usize = 0;
-    while i < 4 {
-        let a = x[i];
-        let b = x[i + 4];
-        let y = add_row(a, b);
-        x[i] = y;
-        x[i + 4] = a;
-        i += 1;
-    }
+    y[0] = add_row(add_row(x[0], x[4]), key[0]);
+    y[1] = add_row(add_row(x[1], x[5]), key[1]);
+    y[2] = add_row(add_row(x[2], x[6]), key[2]);
+    y[3] = add_row(add_row(x[3], x[7]), key[3]);
+    y[4] = add_row(x[0], key[4]);
+    y[5] = add_row(x[1], key[5]);
+    y[6] = add_row(x[2], key[6]);
+    y[7] = add_row(x[3], key[7]);
 }
 
-// φ applied n times to each state.
-fn phis(x: &mut [[u64; 16]; 8], n: usize)
-    requires { ⌜ Shaped (now x) ⌝ }
-    ensures { λ r. ⌜ Goes (λ b. φs n) (now (x .entry)) (now (x .exit)) ⌝ }
+// The same with φ twice, which leaves (x1, x0 xor x1) of (x0, x1).
+fn phi_phi_sum<'a>(x: &'a [[u64; 16]; 8], key: &'a [[u64; 16]; 8], y: &mut [[u64; 16]; 8])
+    requires { ⌜ Shaped (now x)
+        × Shaped (now key)
+        × (length (now y) ≡ 8) ⌝ }
+    ensures { λ r. ⌜ Goes (λ b w. addRows (φ (φ w)) (lane (now (key .entry)) b)) (now (x .entry)) (now (y .exit)) ⌝ }
 {
-    let mut i: usize = 0;
-    while i < n {
-        phi(x);
-        i += 1;
-    }
+    y[0] = add_row(x[4], key[0]);
+    y[1] = add_row(x[5], key[1]);
+    y[2] = add_row(x[6], key[2]);
+    y[3] = add_row(x[7], key[3]);
+    y[4] = add_row(add_row(x[0], x[4]), key[4]);
+    y[5] = add_row(add_row(x[1], x[5]), key[5]);
+    y[6] = add_row(add_row(x[2], x[6]), key[6]);
+    y[7] = add_row(add_row(x[3], x[7]), key[7]);
 }
 
 fn rotate_row(r: [u64; 16]) -> [u64; 16]
@@ -60,37 +68,53 @@ fn rotate_row(r: [u64; 16]) -> [u64; 16]
     ]
 }
 
-// Each row of each state rotated left by 1.
-fn rotate(x: &mut [[u64; 16]; 8])
-    requires { ⌜ Shaped (now x) ⌝ }
-    ensures { λ r. ⌜ Goes (λ b. rotated) (now (x .entry)) (now (x .exit)) ⌝ }
+// Each row of each state rotated left by 1, in y.
+fn rotate<'a>(x: &'a [[u64; 16]; 8], y: &mut [[u64; 16]; 8])
+    requires { ⌜ Shaped (now x)
+        × (length (now y) ≡ 8) ⌝ }
+    ensures { λ r. ⌜ Goes (λ b. rotated) (now (x .entry)) (now (y .exit)) ⌝ }
 {
-    let mut i: usize = 0;
-    while i < 8 {
-        let r = x[i];
-        let y = rotate_row(r);
-        x[i] = y;
-        i += 1;
-    }
+    y[0] = rotate_row(x[0]);
+    y[1] = rotate_row(x[1]);
+    y[2] = rotate_row(x[2]);
+    y[3] = rotate_row(x[3]);
+    y[4] = rotate_row(x[4]);
+    y[5] = rotate_row(x[5]);
+    y[6] = rotate_row(x[6]);
+    y[7] = rotate_row(x[7]);
 }
 
-// TK(s) of each of the 64 tweaks in x under the key, the same in every state, in their place.
-pub fn tweakey<'a>(k: Cipher, s: usize, key: &'a [[u64; 16]; 8], x: &mut [[u64; 16]; 8])
+// TK(s), for s below 3, of each of the 64 tweaks in x under the key in the same state, in y.
+pub fn tweakey<'a>(
+    k: Cipher,
+    s: usize,
+    key: &'a [[u64; 16]; 8],
+    x: &'a [[u64; 16]; 8],
+    y: &mut [[u64; 16]; 8],
+)
     requires { ⌜ Shaped (now key)
         × Shaped (now x)
+        × (length (now y) ≡ 8)
         × (s < 3) ⌝ }
-    ensures { λ r. ⌜ Goes (λ b w. parts k .tweakey (lane (now (key .entry)) b) w s) (now (x .entry)) (now (x .exit)) ⌝ }
+    ensures { λ r. ⌜ Goes (λ b w. parts k .tweakey (lane (now (key .entry)) b) w s) (now (x .entry)) (now (y .exit)) ⌝ }
 {
     match k {
         Cipher::Scream => {
-            phis(x, s);
-            add(x, key);
+            if s == 0 {
+                sum(x, key, y);
+                return;
+            }
+            if s == 1 {
+                phi_sum(x, key, y);
+                return;
+            }
+            phi_phi_sum(x, key, y);
         }
         Cipher::IScream => {
             if s % 2 == 0 {
-                add(x, key);
+                sum(x, key, y);
             } else {
-                rotate(x);
+                rotate(x, y);
             }
         }
     }

@@ -1,6 +1,6 @@
 -- Columns of the planes: the eight stores that put one, what stands in the planes after it, and the bits of a state in them.
 use mathlib.Core.Path.{_≡_, refl, ap, subst, _∙_}
-use mathlib.Core.List.{List, []}
+use mathlib.Core.List.{List, [], _∷_}
 use Prim.Native.Nat.{ℕ, zero, suc, _<_}
 use lib.ListN.{length, getD, set, length-set}
 use lib.Seq.{getD-set-same, getD-set-other}
@@ -18,6 +18,14 @@ stores (suc n) x j y = set (stores n x j y) n (set (getD (stores n x j y) n []) 
 pub stores-put : (x : List (List ℕ)) → length x ≡ 8 → (j : ℕ) (y : List ℕ) → stores 8 x j y ≡ withColumn x j y
 unfolding withColumn
 stores-put x e j y = subst (λ (z : List (List ℕ)). stores 8 z j y ≡ withColumn z j y) (tab-of [] 8 x e) refl
+
+-- eight rows stored
+pub eight-stores : (y : List (List ℕ)) → length y ≡ 8 → (a b c d e f g h : List ℕ)
+    → set (set (set (set (set (set (set (set y 0 a) 1 b) 2 c) 3 d) 4 e) 5 f) 6 g) 7 h ≡ a ∷ b ∷ c ∷ d ∷ e ∷ f ∷ g ∷ h ∷ []
+eight-stores y l a b c d e f g h =
+    subst
+    (λ (z : List (List ℕ)). set (set (set (set (set (set (set (set z 0 a) 1 b) 2 c) 3 d) 4 e) 5 f) 6 g) 7 h ≡ a ∷ b ∷ c ∷ d ∷ e ∷ f ∷ g ∷ h ∷ [])
+    (tab-of [] 8 y l) refl
 
 module _ (x : List (List ℕ)) (j : ℕ) (y : List ℕ) where
   put-row : (i : ℕ) → i < 8 → getD (withColumn x j y) i [] ≡ set (getD x i []) j (getD y i 0)

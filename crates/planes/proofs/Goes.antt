@@ -1,12 +1,8 @@
 -- Ways of the 64 states one after the other.
-use mathlib.Core.Path.{_≡_, refl, ap, _∙_}
+use mathlib.Core.Path.{_≡_, ap, _∙_}
 use mathlib.Core.List.{List}
 use Prim.Native.Nat.{ℕ, _<_}
-use Rattle.planes.specs.Planes.{lane, Shaped, Goes}
-
--- no way at all
-pub goes-none : {x : List (List ℕ)} → Shaped x → Goes (λ b w. w) x x
-goes-none s = record { shape = s; lanes = λ b h. refl }
+use Rattle.planes.specs.Planes.{lane, Goes}
 
 -- one way, then another
 pub goes-then : {g h : ℕ → List ℕ → List ℕ} {x y z : List (List ℕ)} → Goes g x y → Goes h y z → Goes (λ b w. h b (g b w)) x z

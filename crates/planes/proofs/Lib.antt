@@ -1,7 +1,6 @@
 pub mod Column
 pub mod Goes
-pub mod Levels
-pub mod Pairs
+pub mod Rows
 pub mod Turned
 pub mod Reading
 pub mod Writing

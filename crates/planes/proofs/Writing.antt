@@ -1,21 +1,42 @@
 -- Blocks that are put one behind the other.
 use mathlib.Core.Path.{_≡_, sym, ap, _∙_}
-use mathlib.Core.List.{List, _++_, append-assoc}
-use Prim.Native.Nat.{ℕ, suc, _+_, _*_, _≤_}
+use mathlib.Core.List.{List, [], _∷_, _++_, append-assoc}
+use Prim.Native.Nat.{ℕ, suc, _+_, _*_, _/_, _%_, _≤_}
 use native.Mathlib.Nat.{le-of-eq}
 use native.Mathlib.Numerals.{add-one}
 use native.Mathlib.Omega.{arith}
-use lib.ListN.{length, take, drop, length-append}
+use lib.ListN.{length, getD, take, drop, length-append}
 use lib.Seq.{paste, paste-zero, length-paste, take-all, take-paste, drop-paste, drop-drop}
 use Rattle.blockwise.specs.Blocks.{strung}
 use Rattle.blockwise.proofs.Each.{strung-whole}
 use Rattle.state.specs.Block.{bytes}
+use Rattle.state.specs.State.{rowsOf}
 use Rattle.state.proofs.Trips.{bytes-long}
-use Rattle.planes.specs.Words.{rowsIn}
+use Rattle.transposition.specs.Levels.{wordAt}
+use Rattle.planes.specs.Loaded.{rowsIn}
 
 pub rows-sixteen : (y : List (List ℕ)) (b : ℕ) → length (bytes (rowsIn y b)) ≡ 16
 unfolding rowsIn
 rows-sixteen y b = bytes-long (rowsIn y b)
+
+-- the state in words b and 64 + b
+pub state-rows : (y : List (List ℕ)) (b : ℕ)
+    → rowsOf (record { low = getD (getD y (b / 16) []) (b % 16) 0; high = getD (getD y (b / 16 + 4) []) (b % 16) 0 }) ≡ rowsIn y b
+unfolding rowsOf rowsIn
+state-rows y b =
+    let row : b / 16 + 4 ≡ (64 + b) / 16 = omega arith in
+    let place : b % 16 ≡ (64 + b) % 16 = omega arith in
+    let high : getD (getD y (b / 16 + 4) []) (b % 16) 0 ≡ wordAt y (64 + b) = (λ k. getD (getD y (row k) []) (place k) 0) in
+    let zero : b ≡ 0 + b = omega arith in
+    (λ k. rowsOf (record { low = wordAt y (zero k); high = high k }))
+    ∙ (λ k. one (wordAt y (0 + b)) k ∷ rest (wordAt y (0 + b)) (one (wordAt y (64 + b)) k ∷ rest (wordAt y (64 + b)) []))
+  where
+    one : (w : ℕ) → w % 65536 ≡ w / 1 % 65536
+    one w = omega arith
+
+    -- the three rows behind the first, and what follows
+    rest : ℕ → List ℕ → List ℕ
+    rest w l = (w / 65536 % 65536) ∷ (w / 4294967296 % 65536) ∷ (w / 281474976710656 % 65536) ∷ l
 
 -- one block more
 pub paste-strung : (d : List ℕ) (at b : ℕ) (g : ℕ → List ℕ) → ((i : ℕ) → length (g i) ≡ 16) → at + 16 * b + 16 ≤ length d

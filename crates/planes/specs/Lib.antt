@@ -1,3 +1,2 @@
 pub mod Planes
-pub mod Words
 pub mod Loaded

@@ -1,6 +1,5 @@
 -- Sixty-four states side by side, as the code holds them: eight rows of sixteen planes. Plane j of row i has bit j of row i of every state,
--- that of state b as its bit b. No entry point's contract cites this
--- crate; the theorem of the tables cites `rowAt`.
+-- that of state b as its bit b. No entry point's contract cites this crate; the theorem of the tables cites `rowAt`.
 use mathlib.Core.Path.{_≡_}
 use mathlib.Core.List.{List, []}
 use Prim.Native.Nat.{ℕ, _<_}

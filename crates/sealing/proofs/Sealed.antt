@@ -1,7 +1,6 @@
 -- The sealed bytes as they are written, and the answers of `seal` and `seal_in_place`.
 use mathlib.Core.Path.{_≡_, sym, ap, _∙_}
 use mathlib.Core.List.{List, _++_, append-assoc}
-use mathlib.Core.Logic.{inl}
 use Prim.Native.Nat.{ℕ, _+_, _-_, _*_, _^_, _≤_}
 use native.Mathlib.Nat.{le-of-eq, le-trans}
 use native.Mathlib.Omega.{arith}
@@ -19,7 +18,6 @@ use Rattle.suites.specs.declared.suite.Suite.{Suite}
 use Rattle.limits.specs.Tests.{sealTests}
 use Rattle.limits.proofs.Passed.{seal-passed, header-limit-most, text-limit-most}
 use Rattle.sums.specs.Sums.{sumFrom}
-use Rattle.text_blocks.specs.Text.{Part}
 use Rattle.text_blocks.specs.Under.{enciphers, deciphers}
 use Rattle.text_blocks.proofs.Chunks.{enciphers-blockwise}
 use Rattle.text_blocks.proofs.Parts.{through-split}
@@ -28,10 +26,6 @@ use Rattle.blockwise.specs.Blocks.{block}
 use Rattle.sealing.specs.Passes.{Passable}
 use Rattle.sealing.specs.Seal.{sealed, written, sealReport}
 use Rattle.sealing.specs.declared.seal.SealAnswer.the-variants.{Sealed, Refused as SealRefused}
-
--- the rest of a text
-pub rest-part : (m first n : ℕ) → m ≤ 2 ^ 24 → 16 * first + n ≡ m → Part m first n
-rest-part m first n small end = record { small = small; within = omega arith; whole = inl end }
 
 pub checksum-is : (t : List ℕ) → sumFrom (replicate 16 0) (blocksOf (length t)) (λ i. filled 0 (block t i)) ≡ checksum t
 unfolding checksum

@@ -95,7 +95,7 @@ pub fn seal(
         Answer::Refused(why) => SealAnswer::Refused(why),
         Answer::Done => {
             write_sealed(suite, blockwise::block_at(key, 0), nonce, header, text, out);
-            let count = crate::counts::blocks_of(a) + crate::counts::blocks_of(m) + 1;
+            let count = text_blocks::blocks_of(a) + text_blocks::blocks_of(m) + 1;
             SealAnswer::Sealed(m + 16, count)
         }
     }
@@ -121,7 +121,7 @@ pub fn seal_in_place(
         Answer::Refused(why) => SealAnswer::Refused(why),
         Answer::Done => {
             seal_there(suite, blockwise::block_at(key, 0), nonce, header, m, out);
-            let calls = crate::counts::blocks_of(a) + crate::counts::blocks_of(m) + 1;
+            let calls = text_blocks::blocks_of(a) + text_blocks::blocks_of(m) + 1;
             SealAnswer::Sealed(m + 16, calls)
         }
     }

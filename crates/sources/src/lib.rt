@@ -8,11 +8,25 @@ ghost use Prim.Native.Nat.{_+_, _≤_};
 ghost use lib.ListN.{length};
 ghost use Rattle.fields.specs.Unit.{sourceLength};
 ghost use Rattle.kinds.specs.Kind.{kindOf};
+ghost use Rattle.text_blocks.specs.Text.{Usable};
+ghost use Rattle.text_blocks.specs.Under.{padOf};
 ghost use Rattle.sealing.specs.Passes.{Passable, textOf};
 ghost use Rattle.seals.specs.Parts.{Under};
 ghost use Rattle.seals.specs.Seal.{unitOpened};
 ghost use Rattle.checker.specs.Check.{checkedAt};
 ghost use Rattle.sources.specs.Source.{HasFront, HasSource};
+
+// What is added to the last block of a text of m bytes, for a part that ends at `end`; for one that ends before the text, zeros, and nothing is
+// enciphered.
+fn pad_up_to(suite: Suite, key: [u8; 16], nonce: &[u8], m: usize, end: usize) -> [u8; 16]
+    requires { ⌜ Usable suite (now nonce) ⌝ }
+    ensures { λ r. ⌜ (end ≡ m → r ≡ padOf suite key (now (nonce .entry)) m) ⌝ }
+{
+    if end < m {
+        return [0u8; 16];
+    }
+    text_blocks::pad(suite, key, nonce, m, text_blocks::last_bytes(m))
+}
 
 // The start of the text of the ciphertext c, up to the end of its source, at the start of `work`: its first block, which says the length, then
 // as many as the source needs. The source's length.
@@ -26,11 +40,12 @@ fn text_start(suite: Suite, key: [u8; 16], nonce: &[u8], c: &[u8], work: &mut [u
     let m = c.len();
     let first = sealing::counts::lesser(m, 16);
     let start = TextBlock::start();
-    let pad = text_blocks::pad(suite, key, nonce, m, text_blocks::last_bytes(m));
+    let pad = pad_up_to(suite, key, nonce, m, first);
     passes::window(suite, key, nonce, c, start, pad, &mut work[..first]);
     let len = fields::field::pair(work[0], work[1]);
     let end = sealing::counts::lesser(m, 16 * ((len + 17) / 16));
     if 16 < end {
+        let pad = pad_up_to(suite, key, nonce, m, end);
         passes::window(
             suite,
             key,

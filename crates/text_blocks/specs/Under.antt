@@ -1,7 +1,8 @@
--- The ciphers under a suite that is listed, and blocks under the tweaks of their numbers.
+-- The ciphers under a suite that is listed, and blocks under the tweaks of their numbers; and what is added to a text's last block.
+use mathlib.Core.Path.{_≡_}
 use mathlib.Core.Bool.{Bool, cond}
 use mathlib.Core.List.{List, _++_}
-use Prim.Native.Nat.{ℕ, _+_, _-_, _*_, _/_}
+use Prim.Native.Nat.{ℕ, _+_, _-_, _*_, _/_, _<_}
 use lib.ListN.{drop}
 use Rattle.blockwise.specs.Blocks.{strung, block}
 use Rattle.calls.specs.Calls.{lengthBlock}
@@ -35,3 +36,7 @@ lastBytes m = m - 16 * ((m - 1) / 16)
 -- what is added to that block
 abbrev pub padOf : Suite → List ℕ → List ℕ → ℕ → List ℕ
 padOf s key nonce m = enciphers s key (specialTweak nonce (lastTextMark m)) (lengthBlock (lastBytes m))
+
+-- the pad is right where n bytes from block `first` on of a text of m end with its last block
+abbrev pub PadFor : Suite → List ℕ → List ℕ → ℕ → ℕ → ℕ → List ℕ → Type 0
+PadFor s key nonce m first n pad = 0 < n → 16 * first + n ≡ m → pad ≡ padOf s key nonce m

@@ -1,32 +1,25 @@
 // Text blocks. A function with a precondition serves our own crates, which have tested what it asks.
+pub mod marks;
+
 use block_numbers::TextBlock;
 use suites::suite::Suite;
-ghost use mathlib.Core.Bool.{true, cond};
+ghost use mathlib.Core.Bool.{true};
 ghost use mathlib.Core.Path.{_≡_};
 ghost use Prim.Native.Nat.{_+_, _*_, _/_, _^_, _<_, _≤_, min};
 ghost use lib.ListN.{length};
 ghost use Rattle.calls.specs.Calls.{lengthBlock};
 ghost use Rattle.calls.specs.Pieces.{through};
-ghost use Rattle.calls.specs.Tweak.{specialTweak, full, lastTextMark};
+ghost use Rattle.calls.specs.Tweak.{specialTweak, blocksOf, lastTextMark};
 ghost use Rattle.suites.specs.Suite.{listed};
-ghost use Rattle.text_blocks.specs.Under.{enciphers, deciphers, either, firstBlocks, lastBytes, padOf};
+ghost use Rattle.text_blocks.specs.Under.{enciphers, deciphers, firstBlocks, lastBytes, PadFor};
 ghost use Rattle.text_blocks.specs.Text.{Usable, Part};
 
-// Whether the last block of n bytes is full.
-pub fn is_full(n: usize) -> bool
-    ensures { λ r. ⌜ r ≡ full n ⌝ }
+// Into how many blocks n bytes are cut.
+pub fn blocks_of(n: usize) -> usize
+    requires { ⌜ n ≤ 2 ^ 24 ⌝ }
+    ensures { λ r. ⌜ r ≡ blocksOf n ⌝ }
 {
-    (0 < n) & (n % 16 == 0)
-}
-
-// The one mark of n bytes whose last block is full, the other of n bytes whose last is not.
-pub fn mark(n: usize, whole: u8, partial: u8) -> u8
-    ensures { λ r. ⌜ r ≡ cond (full n) whole partial ⌝ }
-{
-    if is_full(n) {
-        return whole;
-    }
-    partial
+    (n + 15) / 16
 }
 
 // n, but at most 64.
@@ -113,7 +106,7 @@ pub fn pad(suite: Suite, key: [u8; 16], nonce: &[u8], m: usize, r: usize) -> [u8
         × (r ≤ 16) ⌝ }
     ensures { λ r'. ⌜ r' ≡ enciphers suite key (specialTweak (now (nonce .entry)) (lastTextMark m)) (lengthBlock r) ⌝ }
 {
-    let t = tweak::special_tweak(nonce, mark(m, 0xC0, 0xC8));
+    let t = tweak::special_tweak(nonce, marks::last_text_mark(m));
     encipher_one(suite, key, t, length_block(r))
 }
 
@@ -128,7 +121,8 @@ pub fn last_bytes(m: usize) -> usize
     m - 16 * ((m - 1) / 16)
 }
 
-// A part of a text of m bytes, from block `first` on, deciphered; `pad` is what is added to the text's last block.
+// A part of a text of m bytes, from block `first` on, deciphered; `pad` is what is added to the text's last block, and is any where the part ends
+// before that block.
 pub fn through(
     suite: Suite,
     key: [u8; 16],
@@ -140,7 +134,7 @@ pub fn through(
 )
     requires { ⌜ Usable suite (now nonce)
         × Part m (first .0) (length (now s))
-        × (pad ≡ padOf suite key (now nonce) m) ⌝ }
+        × PadFor suite key (now nonce) m (first .0) (length (now s)) pad ⌝ }
     ensures { λ r. ⌜ now (s .exit)
         ≡ through (deciphers suite key) (enciphers suite key) (now (nonce .entry)) m (first .0) (now (s .entry)) ⌝ }
 {

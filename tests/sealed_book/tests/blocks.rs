@@ -115,14 +115,15 @@ fn slices_of_some_hundred_bytes() {
     }
 }
 
-/// Lengths about 64, 128 and 192 blocks, where a library that takes many at once begins anew.
+/// Every number of blocks up to 199: about 64, 128 and 192 a library that takes many at once begins anew, and somewhere
+/// between it takes those that are left over in another way.
 #[test]
 fn long_slices() {
     let mut random = Random::new(SEED + 2);
     for direction in DIRECTIONS {
         for suite in SUITES {
             let data = Data::new(&mut random, direction, suite, 200);
-            for count in [31, 32, 33, 63, 64, 65, 127, 128, 129, 191, 192, 193] {
+            for count in 22..200 {
                 for extra in [0, 1, 15] {
                     let len = 16 * count + extra;
                     data.check(suite, len, len);

@@ -7,6 +7,7 @@ use std::path::PathBuf;
 use std::process::Command;
 
 use common::hex;
+use common::program::archive;
 use reference::sealing::{header_limit, text_limit};
 use reference::writer::{start, Answer, Writer};
 use sealed_book::{raw, Refusal};
@@ -159,18 +160,13 @@ fn at_last() -> Vec<String> {
 fn client_in_c() {
     let here = PathBuf::from(env!("CARGO_MANIFEST_DIR"));
     let root = here.join("../..");
-    let library = match env::var_os("SEALED_BOOK_LIB") {
-        Some(folder) => PathBuf::from(folder),
-        None => root.join("target/staticlib"),
-    }
-    .join("libsealed_book.a");
     let program = PathBuf::from(env!("CARGO_TARGET_TMPDIR")).join("client");
 
     let compiled = Command::new(env::var_os("CC").unwrap_or_else(|| "cc".into()))
         .args(["-std=c99", "-Wall", "-Wextra", "-Werror", "-pedantic", "-I"])
         .arg(root.join("include"))
         .arg(here.join("tests/c/client.c"))
-        .arg(&library)
+        .arg(archive())
         .arg("-o")
         .arg(&program)
         .status()

@@ -5,7 +5,6 @@ mod common;
 
 use std::arch::asm;
 use std::collections::BTreeMap;
-use std::env;
 use std::ffi::c_void;
 use std::fs;
 use std::path::PathBuf;
@@ -13,6 +12,7 @@ use std::process::Command;
 
 use common::guarded::Numbers;
 use common::parts::{random_book, written};
+use common::program::archive;
 use common::writing::unit;
 use reference::book::Book;
 use reference::cipher::SUITES;
@@ -105,10 +105,28 @@ fn blocks(most: &mut Most, random: &mut Random) {
     }
 }
 
+/// Lengths of headers and texts: none, short and long ones, and those with which runs have groups of 64 blocks, a last
+/// group that is filled up, or fewer blocks that are left over. Up to 1,008 bytes of a header are sealed in one run with
+/// the text's end, and opened in one run.
+const SEALED: [(usize, usize); 12] = [
+    (0, 0),
+    (1, 1),
+    (25, 500),
+    (400, 700),
+    (25, 8_194),
+    (1_008, 1_024),
+    (961, 300),
+    (1_008, 1_025),
+    (1_009, 1_400),
+    (5_000, 40),
+    (16, 8_700),
+    (16, 20_000),
+];
+
 /// Sealing and opening: short texts and long ones, accepted and refused.
 fn sealing(most: &mut Most, random: &mut Random) {
     for (cipher, steps) in SUITES.into_iter().chain([(0, 0)]) {
-        for (a, m) in [(0, 0), (1, 1), (25, 8_194), (5_000, 40), (16, 20_000)] {
+        for (a, m) in SEALED {
             let (key, nonce): ([u8; 16], [u8; 12]) = (random.bytes(), random.bytes());
             let [header, text] = [a, m].map(|len| random.some_bytes(len));
             let (mut sealed, mut opened) = (vec![0; m + 16], vec![0; m]);
@@ -263,7 +281,8 @@ fn paging(most: &mut Most, random: &mut Random, key: &[u8], book: &[u8], checked
     }
 }
 
-/// The most that each call takes, over books with the longest units in all suites, whole and damaged.
+/// The most that each call takes, over books in all suites, whole and damaged, with a short unit, the longest one, and
+/// one whose text and whose source have enough blocks for a group that is filled up.
 fn measured() -> BTreeMap<&'static str, usize> {
     let mut most = Most {
         stack: vec![0; LEN],
@@ -276,6 +295,7 @@ fn measured() -> BTreeMap<&'static str, usize> {
     for suite in SUITES {
         let mut book = random_book(&mut random, suite, 3, 40);
         book.units[1] = unit(&mut random, 4_096, 4_096);
+        book.units[2] = unit(&mut random, 480, 30);
         let bytes = writing(&mut most, &book);
         assert_eq!(bytes, written(&book).0);
         assert_eq!(reading(&mut most, &book.key, &bytes), [0, 0]);
@@ -324,13 +344,9 @@ fn as_the_header_says() {
 /// Nothing is kept between calls: the archive has no data that can be written.
 #[test]
 fn no_state() {
-    let folder = env::var_os("SEALED_BOOK_LIB").map_or_else(
-        || PathBuf::from(env!("CARGO_MANIFEST_DIR")).join("../../target/staticlib"),
-        PathBuf::from,
-    );
     let output = Command::new("objdump")
         .arg("-h")
-        .arg(folder.join("libsealed_book.a"))
+        .arg(archive())
         .output()
         .expect("objdump runs");
     assert!(output.status.success());

@@ -1,5 +1,6 @@
 -- By what it calls.
 use mathlib.Core.Path.{_∙_}
+use native.Mathlib.Omega.{arith}
 use borrow.Author.Needs.{needs}
 use lib.ListN.{length}
 use Rattle.calls.specs.Calls.{filled}
@@ -9,6 +10,11 @@ use Rattle.blockwise.specs.Blocks.{block}
 use Rattle.passes.proofs.Windows.{text, window-sum}
 use Rattle.passes.proofs.add_window.Statement.{statement}
 use Rattle.passes.proofs.add_window.Tie as tie
+
+window-requires : tie.Need-window-requires
+window-requires c κs =
+    let p = c .before .before .before .before in
+    (p .pre .0, p .pre .1, λ some end. p .pre .2 (omega arith))
 
 returns : tie.Need-returns
 unfolding text
@@ -23,4 +29,4 @@ returns c =
     )
 
 pub add-window-spec : {M : Type 1} → statement M
-add-window-spec = tie.close (tie.spec (λ c κs. search needs) (λ c κs. search needs) (λ c. search needs) returns)
+add-window-spec = tie.close (tie.spec window-requires (λ c κs. search needs) (λ c. search needs) returns)

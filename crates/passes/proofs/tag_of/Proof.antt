@@ -1,7 +1,7 @@
 -- The header's sum and the pad are known first. The first window stays in `work`; the other blocks are only added.
 use mathlib.Core.Path.{_≡_, sym, ap, _∙_}
 use mathlib.Core.List.{_++_}
-use Prim.Native.Nat.{_+_, _-_, _*_, min}
+use Prim.Native.Nat.{_+_, _-_, _*_, _<_, min}
 use native.Mathlib.Omega.{arith}
 use borrow.Author.Needs.{needs}
 use lib.ListN.{length, take, drop}
@@ -17,12 +17,12 @@ use Rattle.passes.proofs.Windows.{part-of-rest, sum-none, sum-all}
 use Rattle.passes.proofs.tag_of.Statement.{statement}
 use Rattle.passes.proofs.tag_of.Tie as tie
 
--- what is added to the last block
+-- what is added to the last block, if there is one
 padded : (c : tie.After-known) → let a = c .before .before .before .before .before .before .args in
-    c .known .result .pad ≡ padOf (a .suite) (a .key) (a .nonce .now) (length (a .c .now))
-padded c =
+    0 < length (a .c .now) → c .known .result .pad ≡ padOf (a .suite) (a .key) (a .nonce .now) (length (a .c .now))
+padded c some =
     let a = c .before .before .before .before .before .before .args in
-    pad-is (a .suite) (a .key) (a .nonce .now) (length (a .c .now)) _ (c .known .ensures .1) (c .before .last-bytes .ensures .0)
+    pad-is (a .suite) (a .key) (a .nonce .now) (length (a .c .now)) _ (c .known .ensures .1 some) (c .before .last-bytes .ensures .0)
 
 module _ (c : tie.After-lesser) where
   abbrev begun : tie.Start

@@ -31,7 +31,7 @@ through-requires : tie.Need-through-requires
 through-requires c κs =
     let h = c .before .before .before in
     let p = h .before .before .before .before .before .before .before in
-    (p .pre .0 .usable, rw (long h) (p .pre .1), p .pre .2)
+    (p .pre .0 .usable, rw (long h) (p .pre .1), rw (long h) (p .pre .2))
 
 returns : tie.Need-returns
 returns c =

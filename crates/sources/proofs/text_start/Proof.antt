@@ -11,8 +11,6 @@ use lib.ListN.{length, getD, take, drop, length-append, length-drop}
 use lib.Seq.{length-take-le}
 use Rattle.fields.specs.Unit.{sourceLength}
 use Rattle.text_blocks.specs.Text.{Part}
-use Rattle.text_blocks.specs.Under.{padOf}
-use Rattle.text_blocks.proofs.Parts.{pad-is}
 use Rattle.sealing.specs.Passes.{textOf, textPart}
 use Rattle.sources.proofs.Text.{text-long, text-front, text-part, stated-front, front-enough, front-joined}
 use Rattle.sources.proofs.text_start.Statement.{statement}
@@ -39,32 +37,28 @@ first-long : (c : tie.After-lesser) → length (take (c .lesser .result) (c .bef
 first-long c = length-take-le (c .lesser .result) (c .before .before .before .before .args .work .now) (omega arith)
 
 slice-aggregate-window : tie.Need-slice-aggregate-window
-slice-aggregate-window c = sym (first-long (c .before .before .before .before))
-
--- what is added to the last block
-padded : (c : tie.After-pad) → let a = c .before .before .before .before .before .before .before .args in
-    c .pad .result ≡ padOf (a .suite) (a .key) (a .nonce .now) (length (a .c .now))
-padded c =
-    let a = c .before .before .before .before .before .before .before .args in
-    pad-is (a .suite) (a .key) (a .nonce .now) (length (a .c .now)) _ (c .pad .ensures) (c .before .last-bytes .ensures .0)
+slice-aggregate-window c = sym (first-long (c .before .before .before))
 
 window-requires : tie.Need-window-requires
 window-requires c κs =
-    let z = c .before .before .before in
+    let z = c .before .before in
     let h = z .before in
     let p = h .before .before .before .before in
     let m = length (p .args .c .now) in
-    let n = h .lesser .result in
-    (p .pre .0, rw (first-long h, z .start .ensures) (start-part m n (p .pre .0 .small) (h .lesser .ensures)), padded (c .before))
+    let n = h .lesser .result in (
+      p .pre .0,
+      rw (first-long h, z .start .ensures) (start-part m n (p .pre .0 .small) (h .lesser .ensures)),
+      λ some end. c .before .pad-up-to .ensures (omega (arith, first-long h)),
+    )
 
 -- what the first window leaves
 module _ (c : tie.After-window) where
   abbrev begun : tie.Start
-  begun = c .before .before .before .before .before .before .before .before .before
+  begun = c .before .before .before .before .before .before .before .before
 
   -- how many bytes the first window has
   abbrev front : ℕ
-  front = c .before .before .before .before .before .lesser .result
+  front = c .before .before .before .before .lesser .result
 
   abbrev T : List ℕ
   T = let a = begun .args in textOf (a .suite) (a .key) (a .nonce .now) (a .c .now)
@@ -76,12 +70,12 @@ module _ (c : tie.After-window) where
 
   windowed : c .window .last .1 .1 .1 .1 .1 .1 .0 ≡ take front T
   windowed =
-      let h = c .before .before .before .before .before in
+      let h = c .before .before .before .before in
       let p = h .before .before .before .before in
       let a = p .args in
       let n = h .lesser .result in
       c .window .ensures
-      ∙ (λ i. textPart (a .suite) (a .key) (a .nonce .now) (a .c .now) (c .before .before .before .before .start .ensures i) (first-long h i))
+      ∙ (λ i. textPart (a .suite) (a .key) (a .nonce .now) (a .c .now) (c .before .before .before .start .ensures i) (first-long h i))
       ∙ text-front (a .suite) (a .key) (a .nonce .now) (p .pre .0 .usable .short) (a .c .now) (p .pre .0 .small) n
       (start-part (length (a .c .now)) n (p .pre .0 .small) (h .lesser .ensures))
 
@@ -93,7 +87,7 @@ module _ (c : tie.After-window) where
 
   held-long : length held ≡ length (begun .args .work .now)
   held-long =
-      let h = c .before .before .before .before .before in
+      let h = c .before .before .before .before in
       let a = h .before .before .before .before .args in
       let n = h .lesser .result in
       ap length held-is
@@ -104,7 +98,7 @@ module _ (c : tie.After-window) where
 said : (c : tie.After-pair) → c .pair .result ≡ sourceLength (T (c .before .before .before .before .before))
 said c =
     let w = c .before .before .before .before .before in
-    let h = w .before .before .before .before .before in
+    let h = w .before .before .before .before in
     let p = h .before .before .before .before in
     let n = h .lesser .result in
     c .pair .ensures
@@ -126,7 +120,7 @@ ends c =
 
 part-window-end : tie.Need-part-window-end
 part-window-end c =
-    let l = c .before .before in
+    let l = c .before .before .before in
     let w = l .before .before .before .before .before .before in
     omega (arith, ends l, held-long w, begun w .pre .3)
 
@@ -151,18 +145,21 @@ second-number c = omega arith
 
 window-requires-2 : tie.Need-window-requires-2
 window-requires-2 c κs =
-    let t = c .before .before in
+    let t = c .before .before .before in
     let w = t .before .before .before .before .before .before .before in
-    let p = begun w in
-    (p .pre .0, rw (second-long t, second-number (c .before)) (behind t), padded (w .before .before))
+    let p = begun w in (
+      p .pre .0,
+      rw (second-long t, second-number (c .before)) (behind t),
+      λ some end. c .before .before .pad-up-to2 .ensures (omega (arith, second-long t, second-number (c .before))),
+    )
 
 returns : tie.Need-returns
 returns c =
     let v = c .before .before in
-    let t = v .before .before .before in
+    let t = v .before .before .before .before in
     let l = t .before in
     let w = l .before .before .before .before .before .before in
-    let h = w .before .before .before .before .before in
+    let h = w .before .before .before .before in
     let p = h .before .before .before .before in
     let a = p .args in
     let m = length (a .c .now) in
@@ -193,7 +190,7 @@ returns-2 : tie.Need-returns-2
 returns-2 c =
     let l = c .before in
     let w = l .before .before .before .before .before .before in
-    let h = w .before .before .before .before .before in
+    let h = w .before .before .before .before in
     let a = h .before .before .before .before .args in
     let n = h .lesser .result in
     let r = l .before .pair .result in
@@ -210,7 +207,6 @@ text-start-spec =
     (λ c κs. search needs)
     (λ c κs. search needs)
     (λ c κs. search needs)
-    (λ c κs. search needs)
     (λ c. search needs)
     slice-aggregate-window
     window-requires
@@ -219,6 +215,7 @@ text-start-spec =
     (λ c κs. search needs)
     add-lesser
     mul-lesser
+    (λ c κs. search needs)
     (λ c κs. search needs)
     (λ c κs. search needs)
     (λ c. search needs)

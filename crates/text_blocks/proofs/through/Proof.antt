@@ -66,17 +66,18 @@ returns-3 c =
     ∙ strung-whole k (λ i. g i (block s i))
     (λ i l.
     deciphers-blockwise (a .suite) (a .key) .long (textTweak (a .nonce .now) (a .first .0 + i)) (block s i) (tweak i) (block-long s i (omega arith))) in
-    let last = last-there (a .m) (a .first .0) n (omega arith) some in
+    let end : 16 * a .first .0 + n ≡ a .m = omega arith in
+    let last = last-there (a .m) (a .first .0) n end some in
     let added-to : List ℕ → List ℕ = λ b. enciphers (a .suite) (a .key) (specialTweak (a .nonce .now) (lastTextMark (a .m))) b in
     let pad = added-to (lengthBlock (n - at)) in
     let W = R ++ drop at s in
     let left : take (length W - at) (drop at W) ≡ drop at s = part-rest at W ∙ drop-at R (drop at s) at long in
     let new : c .before .before .add-to .last .0 ≡ added (drop at s) pad =
-    c .before .before .add-to .ensures ∙ (λ j. added (left j) ((p .pre .2 ∙ ap (λ r. added-to (lengthBlock r)) last) j)) in
+    c .before .before .add-to .ensures ∙ (λ j. added (left j) ((p .pre .2 some end ∙ ap (λ r. added-to (lengthBlock r)) last) j)) in
     (λ j. (take-at R (drop at s) at long ∙ made) j ++ (new j ++ part-none at W j))
     ∙ ap (λ l. strung k (λ i. g i (block s i)) ++ l) (append-nil (added (drop at s) pad))
     ∙ through-last (deciphers (a .suite) (a .key)) (enciphers (a .suite) (a .key)) (a .nonce .now) (a .m) (a .first .0) s
-    k refl some (omega arith)
+    k refl some end
 
 pub through-spec : {M : Type 1} → statement M
 through-spec =

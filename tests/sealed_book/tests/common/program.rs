@@ -1,4 +1,4 @@
-//! The programs for the shell.
+//! The programs for the shell, and the archive.
 
 use std::env;
 use std::path::PathBuf;
@@ -20,4 +20,13 @@ pub fn program(name: &str) -> PathBuf {
         program.display()
     );
     program
+}
+
+/// The archive with the functions for C: that of the repository, or of the folder that SEALED_BOOK_LIB names.
+pub fn archive() -> PathBuf {
+    let folder = match env::var_os("SEALED_BOOK_LIB") {
+        Some(folder) => PathBuf::from(folder),
+        None => root().join("target/staticlib"),
+    };
+    folder.join("libsealed_book.a")
 }

@@ -28,7 +28,7 @@ returns-2 c =
     let a = p .args in
     let h = a .header .now in
     let n = (length h - 1) / 16 in
-    let tweak = put .before .special-tweak .ensures ∙ ap (specialTweak (a .nonce .now)) (put .before .before .mark .ensures) in
+    let tweak = put .before .special-tweak .ensures ∙ ap (specialTweak (a .nonce .now)) (put .before .before .last-header-mark .ensures) in
     let last = f .fill .ensures ∙ ap (filled 0x80) (part-rest (16 * n) h) in (
       put .put-at .ensures
           ∙ (λ j. paste (made .header-tweaks .ensures j) (16 * n) (tweak j) 16)

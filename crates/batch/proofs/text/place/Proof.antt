@@ -42,7 +42,7 @@ returns-2 c =
     c .before .before .add-to .ensures ∙ (λ j. added (left j) (c .before .before .before .block-at .ensures j)) in
     (λ j. (take-at R (drop at s) at lr ∙ made ∙ front-strung k o (omega arith)) j ++ (new j ++ part-none at W j))
     ∙ ap (λ (l : List ℕ). strung k (block o) ++ l) (append-nil (added (drop at s) (block o k)))
-    ∙ placed-is (a .m) (a .first .0) s (p .pre .1) k (omega arith) o
+    ∙ placed-is (a .m) (a .first .0) s (p .pre .0) k (omega arith) o
 
 pub place-spec : {M : Type 1} → statement M
 place-spec =

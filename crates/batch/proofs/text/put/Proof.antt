@@ -29,7 +29,7 @@ returns-2 c =
     let a = p .args in
     let s = a .s .now in
     let n = (length s - 1) / 16 in
-    let tweak = put .before .special-tweak .ensures ∙ ap (specialTweak (a .nonce .now)) (put .before .before .mark .ensures) in (
+    let tweak = put .before .special-tweak .ensures ∙ ap (specialTweak (a .nonce .now)) (put .before .before .last-text-mark .ensures) in (
       put .put-at .ensures
           ∙ (λ j. paste (made .text-tweaks .ensures j) (16 * n) (tweak j) 16)
           ∙ text-tweaks-put (a .m) (a .first .0) s (p .pre .2) n (omega arith) (a .nonce .now) (p .pre .0) (a .tweaks .now),

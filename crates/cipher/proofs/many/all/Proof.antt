@@ -12,7 +12,8 @@ returns-2 c =
     let h = c .before .before .before .before .before .before .before .before .before .before in
     let a = h .before .before .before .before .args in
     all-done (ciphered (a .ahead) (a .k) (a .n) (a .key)) (ciphered-blockwise (a .ahead) (a .k) (a .n) (a .key)) (a .tweaks .now) (a .blocks .now)
-    (h .in-groups .result) (omega (arith, h .in-groups .ensures, h .before .whole .ensures)) (c .before .before .before .before .before .before .before .first .ensures) (c .before .before .few2 .ensures)
+    (h .in-groups .result) (omega (arith, h .in-groups .ensures, h .before .whole .ensures))
+    (c .before .before .before .before .before .before .before .first .ensures) (c .before .before .all2 .ensures)
 
 pub all-spec : {M : Type 1} → statement M
 all-spec =

@@ -24,7 +24,7 @@ returns-2 c =
     let a = f .before .before .before .before .before .before .args in
     let h = a .header .now in
     let n = (length h - 1) / 16 in
-    let tweak = c .before .before .special-tweak .ensures ∙ ap (specialTweak (a .nonce .now)) (c .before .before .before .mark .ensures) in
+    let tweak = c .before .before .special-tweak .ensures ∙ ap (specialTweak (a .nonce .now)) (c .before .before .before .last-header-mark .ensures) in
     let last = f .fill .ensures ∙ ap (filled 0x80) (part-rest (16 * n) h) in
     let one = c .before .encipher-one .ensures ∙ (λ i. enciphers (a .suite) (a .key) (tweak i) (last i)) in
     c .add .ensures ∙ (λ i. added (f .before .before .inner .ensures i) (one i)) ∙ header-all (enciphers (a .suite) (a .key)) (a .nonce .now) h n (omega arith)

@@ -12,7 +12,7 @@ returns : tie.Need-returns
 unfolding tagFrom
 returns c =
     let a = c .before .before .before .before .before .args in
-    let tweak = c .before .before .special-tweak .ensures ∙ ap (specialTweak (a .nonce .now)) (c .before .before .before .mark .ensures) in
+    let tweak = c .before .before .special-tweak .ensures ∙ ap (specialTweak (a .nonce .now)) (c .before .before .before .tag-mark .ensures) in
     c .add .ensures
     ∙ ap (λ b. added b (a .sum)) (c .before .encipher-one .ensures ∙ ap (λ t. enciphers (a .suite) (a .key) t (a .checksum)) tweak)
 

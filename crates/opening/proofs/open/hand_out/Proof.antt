@@ -79,7 +79,7 @@ window-requires c κs =
     let b = blocks (d .before .before) in (
       p .pre .0,
       rw (left k, next d) (record { small = p .pre .0 .small; within = omega arith; whole = inl (omega arith) }),
-      pad-is (a .suite) (a .key) (a .nonce .now) m _ (c .before .pad .ensures) (c .before .before .last-bytes .ensures .0),
+      λ some end. pad-is (a .suite) (a .key) (a .nonce .now) m _ (c .before .pad .ensures) (c .before .before .last-bytes .ensures .0),
     )
 
 returns : tie.Need-returns

@@ -4,7 +4,7 @@ use lib.ListN.{getD}
 use mir.Syntax.{w64}
 use mir.Val.{Fits}
 use Rattle.lbox.specs.Lbox
-use Rattle.plane_lbox.specs.Networks
+use Rattle.plane_lbox.proofs.Networks
 use Rattle.plane_lbox.proofs.Network.{network-is}
 use Rattle.plane_lbox.proofs.Tests.{iscream-right}
 use Rattle.plane_lbox.proofs.iscream.network.Statement.{statement}

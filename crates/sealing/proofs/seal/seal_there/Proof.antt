@@ -9,7 +9,7 @@ use lib.Seq.{paste, length-take-le}
 use Rattle.calls.specs.Pieces.{through, headerSum, tagFrom}
 use Rattle.text_blocks.specs.Under.{enciphers}
 use Rattle.text_blocks.proofs.Parts.{through-before}
-use Rattle.sealing.proofs.Sealed.{rest-part, checksum-is, second-is, through-parts, sealed-written}
+use Rattle.sealing.proofs.Sealed.{checksum-is, second-is, through-parts, sealed-written}
 use Rattle.sealing.proofs.seal.seal_there.Statement.{statement}
 use Rattle.sealing.proofs.seal.seal_there.Tie as tie
 
@@ -37,7 +37,7 @@ rest-requires c κs =
     ∙ length-drop n (take m out)
     ∙ ap (λ (k : ℕ). k - n) (length-take-le m out (omega arith)) in
     let end : 16 * c .before .after .result .0 + length (take (m - n) (drop n (R ++ drop n out))) ≡ m = omega arith in
-    (p .pre .0 .usable, p .pre .0 .small, rest-part _ _ _ (p .pre .1) end, end, omega arith)
+    (p .pre .0 .usable, p .pre .0 .small, p .pre .1, end, omega arith)
 
 returns : tie.Need-returns
 returns c =
