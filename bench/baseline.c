@@ -1,7 +1,7 @@
 /*
  * Scream and iScream (CAESAR version 1) in C, one block at a time, sealing over them, the writer, the
  * checker and the fetcher of sealed books, and the page that compares a sentence with a book: the
- * yardstick of the benchmark.
+ * yardstick of the benchmark. Books are written of the wide kind or the old one, and read of both.
  *
  * The S-boxes are bitsliced on the eight rows (Algorithms 3 and 4, and 5 with its round corrected).
  * The L-boxes go by two tables of 256 words each, one for each byte of a row. Four byte tables, as
@@ -556,7 +556,48 @@ uint32_t baseline_open(uint8_t cipher, uint8_t steps, const uint8_t *key, size_t
 
 /* ---- Books ---- */
 
-enum { MOST_UNITS = 65535, LONGEST_SEGMENT = 4096, LONGEST_TEXT = 2 + 2 * LONGEST_SEGMENT };
+enum { LONGEST_SEGMENT = 4096, LONGEST_TEXT = 2 + 2 * LONGEST_SEGMENT };
+
+/* Units that are read at most, of either kind. */
+enum { MOST_UNITS = 16777215 };
+
+/* A kind of book: the tags of unit header and close, the bytes of a number in these, and how many units
+ * are written at most. */
+typedef struct {
+    uint8_t header_tag, close_tag;
+    size_t number_bytes;
+    uint64_t most_units;
+} kind;
+
+static const kind OLD = {0x10, 0x20, 2, 65535}, WIDE = {0x14, 0x21, 4, MOST_UNITS};
+
+/* Tag and length of a field. */
+enum { FIELD = 3 };
+
+/* Fields 01 and 02, and these with the longest header of a unit. */
+enum { OPENING = 16, LONGEST_HEADER = OPENING + FIELD + 8 };
+
+/* The bytes of a unit's header, those of a whole unit without its segments, and those of a close's first
+ * field and of a whole close. */
+INLINE size_t header_len(const kind *k)
+{
+    return FIELD + k->number_bytes + 4;
+}
+
+INLINE size_t around_segments(const kind *k)
+{
+    return header_len(k) + FIELD + 2 + FIELD + 16;
+}
+
+INLINE size_t close_header_len(const kind *k)
+{
+    return FIELD + k->number_bytes;
+}
+
+INLINE size_t close_len(const kind *k)
+{
+    return close_header_len(k) + FIELD + 16;
+}
 
 /* `open` is 0 for a closed writer. */
 typedef struct {
@@ -603,22 +644,22 @@ static uint8_t *put_opening(uint8_t *to, const baseline_writer *w)
 static void seal_part(baseline_writer *w, const uint8_t *head, size_t head_len, const uint8_t *text,
                       size_t len, uint8_t *out, uint8_t *tag)
 {
-    uint8_t nonce[12], header[25];
-    size_t header_len = 16 + head_len;
+    uint8_t nonce[12], header[LONGEST_HEADER];
+    size_t along = OPENING + head_len;
     put_number(put_number(nonce, w->number, 8), w->units, 4);
     put(put_opening(header, w), head, head_len);
     if (w->cipher == SCREAM)
-        seal(SCREAM, w->steps, w->key, nonce, 12, header, header_len, text, len, out, tag);
+        seal(SCREAM, w->steps, w->key, nonce, 12, header, along, text, len, out, tag);
     else
-        seal(ISCREAM, w->steps, w->key, nonce, 12, header, header_len, text, len, out, tag);
-    w->calls += (header_len + 15) / 16 + (len + 15) / 16 + 1;
+        seal(ISCREAM, w->steps, w->key, nonce, 12, header, along, text, len, out, tag);
+    w->calls += (along + 15) / 16 + (len + 15) / 16 + 1;
 }
 
 /* Refusals 9 and 10. */
-static uint32_t writer_refused(const baseline_writer *w, size_t len)
+static uint32_t writer_refused(const kind *k, const baseline_writer *w, size_t len)
 {
-    if (!listed(w->cipher, w->steps) || w->place < 16 || w->place > len || w->units > MOST_UNITS ||
-        w->calls > 1024 * (w->units + 1))
+    if (!listed(w->cipher, w->steps) || w->place < OPENING || w->place > len ||
+        w->units > k->most_units || w->calls > 1024 * (w->units + 1))
         return 9;
     return w->open ? 0 : 10;
 }
@@ -637,15 +678,47 @@ uint32_t baseline_start(uint8_t cipher, uint8_t steps, const uint8_t *key, size_
         return 1;
     if (key_len != 16)
         return 2;
-    if (len < 16)
+    if (len < OPENING)
         return 7;
     w->cipher = cipher;
     w->steps = steps;
     w->open = 1;
     w->number = number;
-    w->place = 16;
+    w->place = OPENING;
     memcpy(w->key, key, 16);
     put_opening(buffer, w);
+    return 0;
+}
+
+INLINE uint32_t add_unit(const kind *k, baseline_writer *w, uint8_t *buffer, size_t len,
+                         const uint8_t from[2], const uint8_t to[2], const uint8_t *source, size_t s,
+                         const uint8_t *target, size_t t)
+{
+    uint32_t number = writer_refused(k, w, len);
+    if (number != 0)
+        return number;
+    if (!letters(from) || !letters(to) || memcmp(from, to, 2) == 0)
+        return 11;
+    if (s == 0 || s > LONGEST_SEGMENT || t > LONGEST_SEGMENT)
+        return 12;
+    if (w->units == k->most_units)
+        return 13;
+    if (len - w->place < around_segments(k) + s + t)
+        return 7;
+
+    uint8_t text[LONGEST_TEXT];
+    size_t m = 2 + s + t;
+    put(put(put_number(text, s, 2), source, s), target, t);
+
+    uint8_t *head = buffer + w->place;
+    uint8_t *at = put_head(head, k->header_tag, k->number_bytes + 4);
+    at = put_number(at, w->units, k->number_bytes);
+    at = put(put(at, from, 2), to, 2);
+    uint8_t *ciphertext = put_head(at, 0x11, m);
+    uint8_t *tag = put_head(ciphertext + m, 0x12, 16);
+    seal_part(w, head, header_len(k), text, m, ciphertext, tag);
+    w->place += around_segments(k) + s + t;
+    w->units++;
     return 0;
 }
 
@@ -654,48 +727,44 @@ uint32_t baseline_add(baseline_writer *w, uint8_t *buffer, size_t len, const uin
                       const uint8_t to[2], const uint8_t *source, size_t s, const uint8_t *target,
                       size_t t)
 {
-    uint32_t number = writer_refused(w, len);
+    return add_unit(&WIDE, w, buffer, len, from, to, source, s, target, t);
+}
+
+/* The same as the writer of old books did. */
+uint32_t baseline_add_old(baseline_writer *w, uint8_t *buffer, size_t len, const uint8_t from[2],
+                          const uint8_t to[2], const uint8_t *source, size_t s,
+                          const uint8_t *target, size_t t)
+{
+    return add_unit(&OLD, w, buffer, len, from, to, source, s, target, t);
+}
+
+INLINE uint32_t close_book(const kind *k, baseline_writer *w, uint8_t *buffer, size_t len)
+{
+    uint32_t number = writer_refused(k, w, len);
     if (number != 0)
         return number;
-    if (!letters(from) || !letters(to) || memcmp(from, to, 2) == 0)
-        return 11;
-    if (s == 0 || s > LONGEST_SEGMENT || t > LONGEST_SEGMENT)
-        return 12;
-    if (w->units == MOST_UNITS)
-        return 13;
-    if (len - w->place < 33 + s + t)
+    if (len - w->place < close_len(k))
         return 7;
-
-    uint8_t text[LONGEST_TEXT];
-    size_t m = 2 + s + t;
-    put(put(put_number(text, s, 2), source, s), target, t);
-
     uint8_t *head = buffer + w->place;
-    uint8_t *at = put_number(put_head(head, 0x10, 6), w->units, 2);
-    at = put(put(at, from, 2), to, 2);
-    uint8_t *ciphertext = put_head(at, 0x11, m);
-    uint8_t *tag = put_head(ciphertext + m, 0x12, 16);
-    seal_part(w, head, 9, text, m, ciphertext, tag);
-    w->place += 33 + s + t;
-    w->units++;
+    uint8_t *at = put_head(head, k->close_tag, k->number_bytes);
+    at = put_number(at, w->units, k->number_bytes);
+    uint8_t *tag = put_head(at, 0x12, 16);
+    seal_part(w, head, close_header_len(k), NULL, 0, NULL, tag);
+    w->place += close_len(k);
+    w->open = 0;
     return 0;
 }
 
 /* Closes the book at the place. Returns 0, or the refusal's number. */
 uint32_t baseline_close(baseline_writer *w, uint8_t *buffer, size_t len)
 {
-    uint32_t number = writer_refused(w, len);
-    if (number != 0)
-        return number;
-    if (len - w->place < 24)
-        return 7;
-    uint8_t *head = buffer + w->place;
-    uint8_t *at = put_number(put_head(head, 0x20, 2), w->units, 2);
-    uint8_t *tag = put_head(at, 0x12, 16);
-    seal_part(w, head, 5, NULL, 0, NULL, tag);
-    w->place += 24;
-    w->open = 0;
-    return 0;
+    return close_book(&WIDE, w, buffer, len);
+}
+
+/* The same as the writer of old books did. */
+uint32_t baseline_close_old(baseline_writer *w, uint8_t *buffer, size_t len)
+{
+    return close_book(&OLD, w, buffer, len);
 }
 
 /* What is left of a book that is read. */
@@ -704,9 +773,24 @@ typedef struct {
     size_t len;
 } rest;
 
-INLINE size_t number_at(const uint8_t *at)
+INLINE uint16_t two_bytes_at(const uint8_t *at)
 {
-    return (size_t)at[0] << 8 | at[1];
+    uint16_t number;
+    memcpy(&number, at, 2);
+    return __builtin_bswap16(number);
+}
+
+INLINE uint32_t four_bytes_at(const uint8_t *at)
+{
+    uint32_t number;
+    memcpy(&number, at, 4);
+    return __builtin_bswap32(number);
+}
+
+/* A unit's number, or the count of a close. */
+INLINE uint64_t number_at(const kind *k, const uint8_t *at)
+{
+    return k->number_bytes == 2 ? two_bytes_at(at) : four_bytes_at(at);
 }
 
 /* The value of the field that comes next, and its length, where it has this tag and a length in this
@@ -715,7 +799,7 @@ INLINE const uint8_t *next_field(rest *r, uint8_t tag, size_t least, size_t most
 {
     if (r->len < 3 || r->at[0] != tag)
         return NULL;
-    *len = number_at(r->at + 1);
+    *len = two_bytes_at(r->at + 1);
     if (*len < least || *len > most || r->len - 3 < *len)
         return NULL;
     const uint8_t *value = r->at + 3;
@@ -730,36 +814,38 @@ static int open_part(const uint8_t *key, const uint8_t *book, uint64_t units, co
                      size_t head_len, const uint8_t *ciphertext, size_t len, const uint8_t *tag,
                      uint8_t *text, uint64_t *calls)
 {
-    uint8_t nonce[12], header[25], cipher = book[14], steps = book[15];
-    size_t header_len = 16 + head_len;
+    uint8_t nonce[12], header[LONGEST_HEADER], cipher = book[14], steps = book[15];
+    size_t along = OPENING + head_len;
     put_number(put(nonce, book + 3, 8), units, 4);
-    put(put(header, book, 16), head, head_len);
-    *calls += (header_len + 15) / 16 + (len + 15) / 16 + 1;
+    put(put(header, book, OPENING), head, head_len);
+    *calls += (along + 15) / 16 + (len + 15) / 16 + 1;
     return cipher == SCREAM
-        ? unseal(SCREAM, steps, key, nonce, 12, header, header_len, ciphertext, len, tag, text)
-        : unseal(ISCREAM, steps, key, nonce, 12, header, header_len, ciphertext, len, tag, text);
+        ? unseal(SCREAM, steps, key, nonce, 12, header, along, ciphertext, len, tag, text)
+        : unseal(ISCREAM, steps, key, nonce, 12, header, along, ciphertext, len, tag, text);
 }
 
 /* The fields of a unit: its header whole, the ciphertext of `m` bytes, the tag. */
 typedef struct {
     const uint8_t *head, *ciphertext, *tag;
-    size_t m;
+    size_t head_len, m;
 } unit;
 
 /* Reads the unit that comes next, and opens nothing. Returns 0, or the refusal's number. */
-INLINE uint32_t next_unit(rest *r, uint64_t units, unit *u)
+INLINE uint32_t next_unit(const kind *k, rest *r, uint64_t units, unit *u)
 {
-    size_t len;
-    const uint8_t *head = next_field(r, 0x10, 6, 6, &len);
+    size_t len, value_len = k->number_bytes + 4;
+    const uint8_t *head = next_field(r, k->header_tag, value_len, value_len, &len);
     if (head == NULL)
         return 14;
     if (units == MOST_UNITS)
         return 13;
-    if (number_at(head) != units)
+    if (number_at(k, head) != units)
         return 15;
-    if (!letters(head + 2) || !letters(head + 4) || memcmp(head + 2, head + 4, 2) == 0)
+    const uint8_t *from = head + k->number_bytes, *to = from + 2;
+    if (!letters(from) || !letters(to) || memcmp(from, to, 2) == 0)
         return 11;
-    u->head = head - 3;
+    u->head = head - FIELD;
+    u->head_len = header_len(k);
     u->ciphertext = next_field(r, 0x11, 3, LONGEST_TEXT, &u->m);
     u->tag = u->ciphertext == NULL ? NULL : next_field(r, 0x12, 16, 16, &len);
     return u->tag == NULL ? 14 : 0;
@@ -770,9 +856,9 @@ INLINE uint32_t next_unit(rest *r, uint64_t units, unit *u)
 static uint32_t open_unit(const uint8_t *key, const uint8_t *book, uint64_t units, const unit *u,
                           uint8_t *text, size_t *source_len, uint64_t *calls)
 {
-    if (!open_part(key, book, units, u->head, 9, u->ciphertext, u->m, u->tag, text, calls))
+    if (!open_part(key, book, units, u->head, u->head_len, u->ciphertext, u->m, u->tag, text, calls))
         return 8;
-    size_t s = number_at(text), segments = u->m - 2;
+    size_t s = two_bytes_at(text), segments = u->m - 2;
     if (s == 0 || s > LONGEST_SEGMENT || s > segments || segments - s > LONGEST_SEGMENT)
         return 12;
     *source_len = s;
@@ -780,37 +866,65 @@ static uint32_t open_unit(const uint8_t *key, const uint8_t *book, uint64_t unit
 }
 
 /* The close that comes next, and the end of the book. Returns 0, or the refusal's number. */
-static uint32_t check_close(const uint8_t *key, const uint8_t *book, rest *r, uint64_t units,
-                            uint64_t *calls)
+static uint32_t check_close(const kind *k, const uint8_t *key, const uint8_t *book, rest *r,
+                            uint64_t units, uint64_t *calls)
 {
-    size_t len;
-    const uint8_t *head = next_field(r, 0x20, 2, 2, &len);
+    size_t len, value_len = k->number_bytes;
+    const uint8_t *head = next_field(r, k->close_tag, value_len, value_len, &len);
     const uint8_t *tag = head == NULL ? NULL : next_field(r, 0x12, 16, 16, &len);
     if (tag == NULL)
         return 14;
-    if (number_at(head) != units)
+    if (number_at(k, head) != units)
         return 15;
-    if (!open_part(key, book, units, head - 3, 5, NULL, 0, tag, NULL, calls))
+    if (!open_part(key, book, units, head - FIELD, close_header_len(k), NULL, 0, tag, NULL, calls))
         return 8;
     return r->len == 0 ? 0 : 14;
 }
 
-/* Reads fields 01 and 02. Returns 0, or the refusal's number, that of the key's length too. */
-static uint32_t read_opening(size_t key_len, rest *r)
+/* Reads fields 01 and 02. Returns 0, or the refusal's number. */
+static uint32_t read_opening(rest *r)
 {
     const uint8_t *book = r->at;
     size_t len;
-    if (key_len != 16)
-        return 2;
     if (next_field(r, 0x01, 8, 8, &len) == NULL || next_field(r, 0x02, 2, 2, &len) == NULL)
         return 14;
     return listed(book[14], book[15]) ? 0 : 1;
 }
 
-/* Whether a close comes next. */
-INLINE int at_close(const rest *r)
+/* Whether an old book stands there, behind fields 01 and 02: the tag that comes next says it. Any tag that
+ * neither kind has is refused in both. */
+INLINE int is_old(const rest *r)
 {
-    return r->len > 0 && r->at[0] == 0x20;
+    return r->len > 0 && (r->at[0] == OLD.header_tag || r->at[0] == OLD.close_tag);
+}
+
+/* Whether a close comes next. */
+INLINE int at_close(const kind *k, const rest *r)
+{
+    return r->len > 0 && r->at[0] == k->close_tag;
+}
+
+INLINE uint32_t check_rest(const kind *k, const uint8_t *key, const uint8_t *book, rest r,
+                           uint64_t *unit_count, uint64_t *call_total)
+{
+    uint64_t units = 0, calls = 0;
+    uint32_t number;
+    for (; !at_close(k, &r); units++) {
+        uint8_t text[LONGEST_TEXT];
+        size_t s;
+        unit u;
+        number = next_unit(k, &r, units, &u);
+        if (number == 0)
+            number = open_unit(key, book, units, &u, text, &s, &calls);
+        if (number != 0)
+            return number;
+    }
+    number = check_close(k, key, book, &r, units, &calls);
+    if (number != 0)
+        return number;
+    *unit_count = units;
+    *call_total = calls;
+    return 0;
 }
 
 /* Checks a book of `len` bytes. Returns 0, with unit count and call total written, or the refusal's
@@ -819,26 +933,54 @@ uint32_t baseline_check(const uint8_t *key, size_t key_len, const uint8_t *book,
                         uint64_t *unit_count, uint64_t *call_total)
 {
     rest r = {book, len};
-    uint32_t number = read_opening(key_len, &r);
+    if (key_len != 16)
+        return 2;
+    uint32_t number = read_opening(&r);
     if (number != 0)
         return number;
-    uint64_t units = 0, calls = 0;
-    for (; !at_close(&r); units++) {
-        uint8_t text[LONGEST_TEXT];
-        size_t s;
-        unit u;
-        number = next_unit(&r, units, &u);
-        if (number == 0)
-            number = open_unit(key, book, units, &u, text, &s, &calls);
-        if (number != 0)
-            return number;
+    return is_old(&r) ? check_rest(&OLD, key, book, r, unit_count, call_total)
+                      : check_rest(&WIDE, key, book, r, unit_count, call_total);
+}
+
+/* What a walk came to: the unit that was looked for, or a close behind `units` units, with what is left of
+ * the book from there on; or a refusal's number. */
+typedef struct {
+    uint32_t number;
+    uint64_t units;
+    unit u;
+    rest r;
+} met;
+
+/* The numbers of the first two. */
+enum { MET_UNIT = 0, MET_CLOSE = 16 };
+
+/* Walks over the units before unit `k`, and reads that unit. */
+INLINE met walk(const kind *kind, rest r, uint64_t k)
+{
+    unit u = {0};
+    uint64_t units = 0;
+    for (; !at_close(kind, &r); units++) {
+        uint32_t number = next_unit(kind, &r, units, &u);
+        if (number != 0 || units == k)
+            return (met){number, units, u, r};
     }
-    number = check_close(key, book, &r, units, &calls);
-    if (number != 0)
-        return number;
-    *unit_count = units;
-    *call_total = calls;
-    return 0;
+    return (met){MET_CLOSE, units, u, r};
+}
+
+/* Finds the ciphertext of unit `k` in a book of `len` bytes, and opens nothing: where it stands, and its
+ * length, both 0 where there is none. */
+void baseline_ciphertext(const uint8_t *book, size_t len, uint64_t k, uint64_t *at,
+                         uint64_t *ciphertext_len)
+{
+    rest r = {book, len};
+    *at = *ciphertext_len = 0;
+    if (read_opening(&r) != 0)
+        return;
+    met m = is_old(&r) ? walk(&OLD, r, k) : walk(&WIDE, r, k);
+    if (m.number != MET_UNIT)
+        return;
+    *at = (uint64_t)(m.u.ciphertext - book);
+    *ciphertext_len = m.u.m;
 }
 
 /* Fetches unit `k` of a book of `len` bytes: walks over the units before it, opens it where it stands,
@@ -849,25 +991,23 @@ uint32_t baseline_fetch(const uint8_t *key, size_t key_len, const uint8_t *book,
                         uint64_t *target_len)
 {
     rest r = {book, len};
-    uint32_t number = read_opening(key_len, &r);
+    if (key_len != 16)
+        return 2;
+    uint32_t number = read_opening(&r);
     if (number != 0)
         return number;
-    uint64_t units = 0, calls = 0;
-    unit u;
-    for (;; units++) {
-        if (at_close(&r)) {
-            number = check_close(key, book, &r, units, &calls);
-            return number != 0 ? number : 16;
-        }
-        number = next_unit(&r, units, &u);
-        if (number != 0)
-            return number;
-        if (units == k)
-            break;
+    const kind *kind = is_old(&r) ? &OLD : &WIDE;
+    uint64_t calls = 0;
+    met m = kind == &OLD ? walk(&OLD, r, k) : walk(&WIDE, r, k);
+    if (m.number == MET_CLOSE) {
+        number = check_close(kind, key, book, &m.r, m.units, &calls);
+        return number != 0 ? number : 16;
     }
+    if (m.number != MET_UNIT)
+        return m.number;
     uint8_t text[LONGEST_TEXT];
-    size_t s, segments = u.m - 2;
-    number = open_unit(key, book, k, &u, text, &s, &calls);
+    size_t s, segments = m.u.m - 2;
+    number = open_unit(key, book, k, &m.u, text, &s, &calls);
     if (number != 0)
         return number;
     if (out_len < segments)
@@ -978,11 +1118,11 @@ static size_t open_source(const uint8_t *key, const uint8_t *book, uint64_t unit
     put_number(put(nonce, book + 3, 8), units, 4);
     if (cipher == SCREAM) {
         unseal_some(SCREAM, steps, key, nonce, 12, u->ciphertext, u->m, 0, 2, text);
-        s = number_at(text);
+        s = two_bytes_at(text);
         unseal_some(SCREAM, steps, key, nonce, 12, u->ciphertext, u->m, 16, 2 + s, text);
     } else {
         unseal_some(ISCREAM, steps, key, nonce, 12, u->ciphertext, u->m, 0, 2, text);
-        s = number_at(text);
+        s = two_bytes_at(text);
         unseal_some(ISCREAM, steps, key, nonce, 12, u->ciphertext, u->m, 16, 2 + s, text);
     }
     return s;
@@ -1000,6 +1140,25 @@ INLINE uint8_t *put_right(uint8_t *to, uint32_t number, size_t columns)
     return to + columns;
 }
 
+/* The rows of the first `count` units of a checked book. */
+INLINE void put_rows(const kind *k, const uint8_t *key, const uint8_t *book, size_t len, uint64_t count,
+                     const trigram_table *t, const uint8_t *typed, size_t typed_len, uint8_t *page)
+{
+    rest r = {book + OPENING, len - OPENING};
+    for (uint64_t units = 0; units < count; units++) {
+        uint8_t text[LONGEST_TEXT];
+        place *taken[LONGEST_SEGMENT];
+        unit u;
+        if (next_unit(k, &r, units, &u) != 0)
+            abort();
+        size_t s = open_source(key, book, units, &u, text);
+        size_t shared = shared_trigrams(t, text + 2, s, taken);
+        page = put_right(page, (uint32_t)s, 5);
+        page = put_right(page, score_of(shared, text + 2, s, typed, typed_len), 6);
+        *page++ = '\n';
+    }
+}
+
 /* Compares a typed sentence with every unit of a book: 12 bytes a unit to the start of the page. Returns
  * 0, with the page's length written, or the refusal's number. */
 uint32_t baseline_page(const uint8_t *key, size_t key_len, const uint8_t *book, size_t len,
@@ -1013,19 +1172,11 @@ uint32_t baseline_page(const uint8_t *key, size_t key_len, const uint8_t *book, 
     if (room < 12 * count)
         return 7;
     trigram_table t = count_trigrams(typed, typed_len);
-    rest r = {book + 16, len - 16};
-    for (uint64_t units = 0; units < count; units++) {
-        uint8_t text[LONGEST_TEXT];
-        place *taken[LONGEST_SEGMENT];
-        unit u;
-        if (next_unit(&r, units, &u) != 0)
-            abort();
-        size_t s = open_source(key, book, units, &u, text);
-        size_t shared = shared_trigrams(&t, text + 2, s, taken);
-        page = put_right(page, (uint32_t)s, 5);
-        page = put_right(page, score_of(shared, text + 2, s, typed, typed_len), 6);
-        *page++ = '\n';
-    }
+    rest r = {book + OPENING, len - OPENING};
+    if (is_old(&r))
+        put_rows(&OLD, key, book, len, count, &t, typed, typed_len, page);
+    else
+        put_rows(&WIDE, key, book, len, count, &t, typed, typed_len, page);
     free(t.places);
     *page_len = 12 * count;
     return 0;

@@ -33,28 +33,32 @@ extern "C" {
 /* The version of these declarations, N of the library's version 0.N.x. It moves whenever one of them changes its meaning, or a
  * program in Rust has to change; an archive goes with the header of its own version only. CHANGELOG.md has what changed.
  *   1  headers that do not define it
- *   2  sb_fetch_at has one more parameter at its end, *next */
-#define SB_VERSION 2
+ *   2  sb_fetch_at has one more parameter at its end, *next
+ *   3  books are written with unit numbers of 4 bytes, up to SB_UNITS_MAX, and take more room: SB_UNIT_ROOM, SB_CLOSE_ROOM,
+ *      SB_BOOK_ROOM and SB_UNITS_MAX are larger. A program that was compiled with an older header may lend too short a buffer,
+ *      which is refused with 7. Books of older versions are read still; older versions of the library refuse the new ones */
+#define SB_VERSION 3
 
 /* Lengths in bytes, and limits. */
-#define SB_KEY_LEN 16       /* a key */
-#define SB_BLOCK_LEN 16     /* a block of the ciphers, and a tweak */
-#define SB_TAG_LEN 16       /* a tag: what sb_seal writes behind the ciphertext */
-#define SB_NONCE_MAX 15     /* a nonce at most; it has 1 at least */
-#define SB_WRITER_LEN 64    /* a writer */
-#define SB_SEGMENT_MAX 4096 /* a source at most, or a target; a source has 1 at least */
-#define SB_UNIT_MAX 8192    /* source and target of a unit together at most: always enough output for a fetch */
-#define SB_UNITS_MAX 65535  /* units of a book at most */
-#define SB_CODE_LEN 2       /* what sb_add reads of each language code */
-#define SB_CODE_ROOM 4      /* room for a language code that is handed out */
-#define SB_FIRST_UNIT 16    /* where unit 0 begins in a book, or the close of a book without units */
-#define SB_ROW_LEN 12       /* a row of a page, which has one for each unit */
-#define SB_SCORE_MAX 1000   /* a score at most: that of a segment and itself */
+#define SB_KEY_LEN 16         /* a key */
+#define SB_BLOCK_LEN 16       /* a block of the ciphers, and a tweak */
+#define SB_TAG_LEN 16         /* a tag: what sb_seal writes behind the ciphertext */
+#define SB_NONCE_MAX 15       /* a nonce at most; it has 1 at least */
+#define SB_WRITER_LEN 64      /* a writer */
+#define SB_SEGMENT_MAX 4096   /* a source at most, or a target; a source has 1 at least */
+#define SB_UNIT_MAX 8192      /* source and target of a unit together at most: always enough output for a fetch */
+#define SB_UNITS_MAX 16777215 /* units of a book at most; a book of a version before 3 has at most 65,535 */
+#define SB_CODE_LEN 2         /* what sb_add reads of each language code */
+#define SB_CODE_ROOM 4        /* room for a language code that is handed out */
+#define SB_FIRST_UNIT 16      /* where unit 0 begins in a book, or the close of a book without units */
+#define SB_ROW_LEN 12         /* a row of a page, which has one for each unit */
+#define SB_SCORE_MAX 1000     /* a score at most: that of a segment and itself */
 
 /* How many bytes of a book a unit takes, how many the close does, and how many a book takes in all that has so many units with
- * so many bytes in their sources and targets together. */
-#define SB_UNIT_ROOM(source_len, target_len) ((size_t)33 + (size_t)(source_len) + (size_t)(target_len))
-#define SB_CLOSE_ROOM 24
+ * so many bytes in their sources and targets together. These are for writing; a book of a version before 3 takes 2 bytes less
+ * for each unit, and 2 less for the close. */
+#define SB_UNIT_ROOM(source_len, target_len) ((size_t)35 + (size_t)(source_len) + (size_t)(target_len))
+#define SB_CLOSE_ROOM 26
 #define SB_BOOK_ROOM(units, segments_len) \
     ((size_t)SB_FIRST_UNIT + (size_t)(units) * SB_UNIT_ROOM(0, 0) + (size_t)(segments_len) + (size_t)SB_CLOSE_ROOM)
 
@@ -75,16 +79,17 @@ extern "C" {
 #define SB_TEXT_TOO_LONG 6    /* the text is over its limit */
 #define SB_OUTPUT_TOO_SHORT 7 /* the output has no room for the result */
 #define SB_TAG_DIFFERS 8      /* the tag is not the one of these bytes: something was changed, or the key is another */
-#define SB_WRITER_INVALID 9   /* the writer has an unlisted suite, a place under 16 or past the buffer, a unit count over 65,535
-                                 or a call total over 1,024 * (unit count + 1): it comes from a refused start, the buffer is
-                                 shorter than before, or its bytes were changed */
+#define SB_WRITER_INVALID 9   /* the writer has an unlisted suite, a place under 16 or past the buffer, a unit count over
+                                 16,777,215 or a call total over 1,024 * (unit count + 1): it comes from a refused start, the
+                                 buffer is shorter than before, or its bytes were changed */
 #define SB_WRITER_CLOSED 10   /* the writer is closed */
 #define SB_LANGUAGES 11       /* a language code has a byte that is no letter a to z, or the two codes are the same */
 #define SB_SEGMENT_LENGTH 12  /* the source has not 1 to 4,096 bytes, or the target has more than 4,096 */
-#define SB_TOO_MANY_UNITS 13  /* the book has 65,535 units already */
-#define SB_FIELD_MALFORMED 14 /* a field of the book has another tag or length than it must have there, or bytes are missing or
-                                 left over */
-#define SB_UNIT_NUMBER 15     /* a unit's number is not the running one, or the close's count is not the number of units */
+#define SB_TOO_MANY_UNITS 13  /* the book has 16,777,215 units already; one with numbers of 2 bytes never gets so far */
+#define SB_FIELD_MALFORMED 14 /* a field of the book has another tag or length than it must have there, also one of the other
+                                 kind of book, or bytes are missing or left over */
+#define SB_UNIT_NUMBER 15     /* a unit's number is not the running one, or the close's count is not the number of units; also
+                                 where 2 bytes of a book from before version 3 cannot hold it */
 #define SB_NO_UNIT 16         /* the book has no unit of that number */
 
 /* A refusal in words: a sentence of static storage, for 0 "done", and never null. The crate for Rust has the
@@ -104,7 +109,7 @@ static inline const char *sb_refusal_text(uint32_t refusal) {
     case SB_WRITER_CLOSED: return "the writer is closed already";
     case SB_LANGUAGES: return "a language code is not two letters a to z, or the two codes are the same";
     case SB_SEGMENT_LENGTH: return "the source does not have 1 to 4,096 bytes, or the target has more than 4,096";
-    case SB_TOO_MANY_UNITS: return "a book has no room for more than 65,535 units";
+    case SB_TOO_MANY_UNITS: return "a book has no room for more than 16,777,215 units";
     case SB_FIELD_MALFORMED: return "not a whole book: a field is malformed, or bytes are missing or left over";
     case SB_UNIT_NUMBER: return "a unit's number is not the running one, or the close's count is not that of the units";
     case SB_NO_UNIT: return "the book has no unit of this number";
@@ -183,7 +188,7 @@ uint32_t sb_open(uint8_t cipher, uint8_t steps, const uint8_t *key, size_t key_l
  *     calls   sb_calls(writer)     *calls of sb_check
  * Who receives the book compares them with what stands at the right, before any unit is used. They do not say which book it is:
  * another one under the key can have the same three. Compare the book number (sb_info) too. As text they are a line as
- * "bytes=84 units=1 calls=7", which the crate for Rust writes and reads.
+ * "bytes=88 units=1 calls=7", which the crate for Rust writes and reads.
  */
 
 /* Starts a book under a suite, a key of 16 bytes and a book number: writes SB_FIRST_UNIT bytes to the start of buf, leaves every
@@ -207,11 +212,21 @@ uint32_t sb_add(uint8_t writer[SB_WRITER_LEN], uint8_t *buf, size_t buf_len,
  * Refusals, the first that applies: 9, 10, 7; then buf and writer are as they were. */
 uint32_t sb_close(uint8_t writer[SB_WRITER_LEN], uint8_t *buf, size_t buf_len);
 
+/* Reading a book.
+ *
+ * There are two kinds of book. In those of sb_start, sb_add and sb_close a unit's number has 4 bytes, and so has the count in the
+ * close; in those of the versions before 3 these have 2 bytes, and there are at most 65,535 units. Every call that reads a book
+ * reads both kinds. The byte behind the opening fields says the kind: 0x10 or 0x20 the second, any other byte the first, whose
+ * books have 0x14 or 0x21 there; what is read there and begins otherwise is refused with 14. So is a field of the other kind: a
+ * book is of one kind throughout. In a book of the second kind no number over 65,535 can stand: a unit or a close that would need
+ * one is refused with 15, so that the limit of 13 is never reached but by the number that sb_fetch_at or sb_unit_at is given.
+ */
+
 /* Checks a whole book, from its first byte to its last, under its key of 16 bytes: accepts it where sb_start, sb_add for each unit
- * and sb_close under this key can have written it, and refuses any other bytes. Only reads. *units is then the number of units,
- * *calls the number of cipher calls that it takes to write these bytes: what sb_units and sb_calls give of a writer that leaves
- * them. Of a book that was made shorter on the way these are not its maker's numbers: compare them and book_len with the receipt
- * (above). A slice of length 0 may be null.
+ * and sb_close under this key can have written it, or those of a version before 3, and refuses any other bytes. Only reads. *units
+ * is then the number of units, *calls the number of cipher calls that it takes to write these bytes: what sb_units and sb_calls
+ * give of a writer that leaves them. Of a book that was made shorter on the way these are not its maker's numbers: compare them and
+ * book_len with the receipt (above). A slice of length 0 may be null.
  * Refusals, the first that applies in the order of the bytes: 2; 14 of the opening fields; 1; of each unit 14 of its number and
  * languages' field, 13, 15, 11, 14 of its ciphertext's and tag's fields, 8, 12; of the close 14 of its fields, 15, 8, and 14 for
  * bytes left over. Then *units and *calls are as they were. */
@@ -234,7 +249,8 @@ uint32_t sb_fetch(const uint8_t *key, size_t key_len, const uint8_t *book, size_
  * begins, or the close. So a book is gone over in time linear in its length:
  *     for (k = 0, at = SB_FIRST_UNIT; (no = sb_fetch_at(.., k, (size_t)at, .., &at)) == 0; k++) ..
  * ends with SB_NO_UNIT at the close of a whole book. What stands at the place is read as unit `number`, or as the close; only the
- * opening fields are looked at besides. Any place may be given; one past the book's end is refused with 14.
+ * opening fields and the byte behind them, which says the kind, are looked at besides. Any place may be given; one past the book's
+ * end is refused with 14.
  * Refusals: those of sb_fetch without the units before k. Then out, *source_len, *target_len and *next are as they were. */
 uint32_t sb_fetch_at(const uint8_t *key, size_t key_len, const uint8_t *book, size_t book_len, uint64_t number, size_t at,
                      uint8_t *out, size_t out_len, uint64_t *source_len, uint64_t *target_len, uint64_t *next);
@@ -251,12 +267,12 @@ uint32_t sb_score(const uint8_t *source, size_t source_len, const uint8_t *typed
 
 /* Compares a typed sentence of any length, also an empty one, with every unit of a book under its key of 16 bytes: writes a row
  * for each unit, in the order of the book, to the start of page, and leaves every other byte of page as it was. *len is then
- * SB_ROW_LEN times the number of units; SB_ROW_LEN * SB_UNITS_MAX bytes of page are always enough. A row is the length of the
- * source in bytes, right-aligned in 5 columns, two blanks, sb_score of the source and the typed sentence, right-aligned in 4
- * columns, and a line feed: "    5   857\n" for a source "valve" and a typed "valves". No zero byte stands behind the rows. The
- * whole book is checked, as by sb_check, before anything is written. It is read twice, and must not change during the call.
- * Compare it with its receipt (above) first: a book that was made shorter on the way is not refused. A slice of length 0 may be
- * null.
+ * SB_ROW_LEN times the number of units, and so many bytes of page are enough: SB_ROW_LEN times *units of sb_check. A row is the
+ * length of the source in bytes, right-aligned in 5 columns, two blanks, sb_score of the source and the typed sentence,
+ * right-aligned in 4 columns, and a line feed: "    5   857\n" for a source "valve" and a typed "valves". No zero byte stands
+ * behind the rows. The whole book is checked, as by sb_check, before anything is written. It is read twice, and must not change
+ * during the call. Compare it with its receipt (above) first: a book that was made shorter on the way is not refused. A slice of
+ * length 0 may be null.
  * It takes sb_check's time and about half of it again; a typed sentence of over SB_SEGMENT_MAX bytes is gone over once for each
  * unit, and bytes can be chosen to be slow (docs/SPEED.md).
  * Refusals, the first that applies: those of sb_check in their order, then 7; then page and *len are as they were. */

@@ -11,8 +11,8 @@ use crate::{info, raw, Info, Receipt, Refusal, Suite, Unit};
 /// `Arc<[u8]>`, or whatever else lends bytes.
 ///
 /// That there is a `Book` says that a [`Writer`](crate::Writer) under this key can have left these bytes,
-/// from the first to the last, and that nothing stands behind the close. As far as ciphers and mode are strong,
-/// no unit is missing, doubled, moved or exchanged.
+/// this version's or one of before 0.3, from the first to the last, and that nothing stands behind the close. As far
+/// as ciphers and mode are strong, no unit is missing, doubled, moved or exchanged.
 ///
 /// That a writer did leave them it does not say: without the key, a unit can be made shorter by who knows some of
 /// its text, or where two equal blocks of 16 bytes stand right before its last one. A [`Receipt`] from the book's
@@ -68,6 +68,10 @@ impl<B: AsRef<[u8]>> Book<B> {
     /// Checks the bytes as a whole book under this key. Every unit is opened, and none kept. Lend `&bytes` to keep
     /// them after a refusal.
     ///
+    /// A book is of one of two kinds: with unit numbers of four bytes, as [`Writer`](crate::Writer) makes it, or of
+    /// two, from a version before 0.3, and then it has at most 65,535 units. The byte behind the opening fields says
+    /// which.
+    ///
     /// # Errors
     ///
     /// The first of these that applies, in the order of the bytes: [`Refusal::FieldMalformed`] of the
@@ -75,7 +79,9 @@ impl<B: AsRef<[u8]>> Book<B> {
     /// [`Refusal::TooManyUnits`], [`Refusal::NumberOutOfOrder`], [`Refusal::LanguagesNotAllowed`],
     /// [`Refusal::FieldMalformed`] of the rest, [`Refusal::TagDiffers`], and [`Refusal::SegmentLength`] for
     /// what no writer makes; of the close [`Refusal::FieldMalformed`], [`Refusal::NumberOutOfOrder`],
-    /// [`Refusal::TagDiffers`], and [`Refusal::FieldMalformed`] for bytes behind it.
+    /// [`Refusal::TagDiffers`], and [`Refusal::FieldMalformed`] for bytes behind it. A field of the other kind is
+    /// malformed; and numbers of two bytes are out of order past 65,535, so that [`Refusal::TooManyUnits`] is of the
+    /// newer kind only.
     pub fn check(key: &[u8; 16], bytes: B) -> Result<Book<B>, Refusal> {
         let lent = bytes.as_ref();
         let raw::Checked { units, calls } = raw::check(key, lent)?;
@@ -122,7 +128,7 @@ impl<B: AsRef<[u8]>> Book<B> {
         self.info.number
     }
 
-    /// How many units it has, 0 to 65,535.
+    /// How many units it has, 0 to 16,777,215.
     pub fn len(&self) -> u64 {
         self.receipt.units
     }
@@ -202,7 +208,7 @@ impl<B: AsRef<[u8]>> Book<B> {
     /// # }
     /// ```
     pub fn page(&self, typed: impl AsRef<[u8]>) -> Result<String, Refusal> {
-        let rows = usize::try_from(self.len()).expect("at most 65,535");
+        let rows = usize::try_from(self.len()).expect("at most 16,777,215");
         let mut page = vec![0; raw::ROW_LEN * rows];
         let len = raw::page(&self.key.0, self.bytes(), typed.as_ref(), &mut page)?;
         page.truncate(len);
@@ -315,7 +321,7 @@ impl Iterator for Units<'_> {
     }
 
     fn size_hint(&self) -> (usize, Option<usize>) {
-        let left = usize::try_from(self.units - self.next).expect("at most 65,535");
+        let left = usize::try_from(self.units - self.next).expect("at most 16,777,215");
         (left, Some(left))
     }
 }

@@ -38,6 +38,9 @@
 //! key. [`seal`] and [`open`] do a single text. A call that cannot be done gives a [`Refusal`] and changes
 //! nothing that was lent. A book that a call takes over is dropped with a refusal: lend `&bytes` to keep it.
 //!
+//! A book has at most 16,777,215 units. Books that versions before 0.3 have written, with at most 65,535 units, are
+//! read by everything here that reads a book; those versions do not read the books that this one writes.
+//!
 //! # What stands below
 //!
 //! All of this calls a static library, which is proved to do what its definitions say, for all inputs; [`raw`] has its functions one to one. This crate adds memory and types, and is

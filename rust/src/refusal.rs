@@ -29,7 +29,7 @@ pub enum Refusal {
     OutputTooShort = 7,
     /// The tag is not the one of these bytes: something was changed, or the key is another.
     TagDiffers = 8,
-    /// The writer has an unlisted suite, a place under 16 or past the buffer, a unit count over 65,535, or
+    /// The writer has an unlisted suite, a place under 16 or past the buffer, a unit count over 16,777,215, or
     /// a call total over 1,024 for each unit and the close.
     WriterInvalid = 9,
     /// The writer is closed.
@@ -38,12 +38,13 @@ pub enum Refusal {
     LanguagesNotAllowed = 11,
     /// The source has not 1 to 4,096 bytes, or the target has more than 4,096.
     SegmentLength = 12,
-    /// The book has 65,535 units already.
+    /// The book has 16,777,215 units already; one with numbers of two bytes never gets so far.
     TooManyUnits = 13,
-    /// A field of the book has another tag or length than it must have there, or bytes are missing or left
-    /// over.
+    /// A field of the book has another tag or length than it must have there, also one of the other kind of
+    /// book, or bytes are missing or left over.
     FieldMalformed = 14,
-    /// A unit's number is not the running one, or the close's count is not the number of units.
+    /// A unit's number is not the running one, or the close's count is not the number of units; also where two
+    /// bytes of a book from before version 0.3 cannot hold it.
     NumberOutOfOrder = 15,
     /// The book has no unit of this number.
     NoSuchUnit = 16,
@@ -111,7 +112,7 @@ impl fmt::Display for Refusal {
             SegmentLength => {
                 "the source does not have 1 to 4,096 bytes, or the target has more than 4,096"
             }
-            TooManyUnits => "a book has no room for more than 65,535 units",
+            TooManyUnits => "a book has no room for more than 16,777,215 units",
             FieldMalformed => {
                 "not a whole book: a field is malformed, or bytes are missing or left over"
             }

@@ -9,10 +9,13 @@ use crate::{raw, Receipt, Refusal, Suite};
 /// How many bytes of memory a writer starts with.
 const FIRST: usize = 1_024;
 
-/// Writes a book: starts it, adds units, and closes it. The bytes are kept in memory, in a buffer that
-/// doubles when it is full.
+/// Writes a book: starts it, adds units, at most 16,777,215, and closes it. The bytes are kept in memory, in a
+/// buffer that doubles when it is full.
 ///
 /// A refused call leaves the writer as it was, and it can go on.
+///
+/// Unit numbers have four bytes in the book. Versions of this crate before 0.3 wrote two, and do not read what this
+/// one writes; their books are read still.
 ///
 /// # One book number, one book
 ///
@@ -36,7 +39,7 @@ const FIRST: usize = 1_024;
 /// assert_eq!(writer.add("en", "fr", "valve", "vanne"), Ok(1));
 /// let (book, receipt) = writer.close()?;
 /// assert_eq!(book.len(), raw::book_room(2, "valveVentil".len() + "valvevanne".len()));
-/// assert_eq!(receipt.to_string(), "bytes=127 units=2 calls=11");
+/// assert_eq!(receipt.to_string(), "bytes=133 units=2 calls=11");
 /// # Ok(())
 /// # }
 /// ```
@@ -91,7 +94,7 @@ impl Writer {
     /// The first of these that applies:
     /// - [`Refusal::LanguagesNotAllowed`], also for a code that has not two bytes;
     /// - [`Refusal::SegmentLength`] where the source has not 1 to 4,096 bytes or the target more than 4,096;
-    /// - [`Refusal::TooManyUnits`] where there are 65,535 already.
+    /// - [`Refusal::TooManyUnits`] where there are 16,777,215 already, [`raw::UNITS_MAX`].
     pub fn add(
         &mut self,
         from: &str,

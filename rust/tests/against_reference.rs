@@ -2,10 +2,10 @@
 
 mod common;
 
-use common::{assert_unit, book, lengths, written};
+use common::{assert_unit, book, lengths, of_both_kinds, written};
 use reference::book as second;
 use reference::random::Random;
-use reference::vectors::book_vectors;
+use reference::vectors::{book_vectors, books_vectors};
 use sealed_book::{Book, Suite};
 
 const SEED: u64 = 0x5345_434F;
@@ -20,8 +20,8 @@ fn assert_units<B: AsRef<[u8]>>(book: &Book<B>, second: &second::Book, name: &st
     }
 }
 
-/// The writer leaves what the second implementation lays out, which takes it apart again; the book that
-/// the second one lays out is checked and read.
+/// The writer leaves what the second implementation lays out, which takes it apart again; the books of both kinds
+/// that the second one lays out are checked and read.
 #[test]
 fn same_books() {
     let mut random = Random::new(SEED);
@@ -39,10 +39,13 @@ fn same_books() {
             let apart = second::Book::taken_apart(&given.key, &bytes);
             assert!(apart.as_ref() == Some(&given), "{name}");
 
-            let checked = Book::check(&given.key, &laid_out).unwrap();
-            assert_eq!(checked.calls(), calls as u64, "{name}");
-            assert_eq!((checked.number(), checked.suite()), (given.number, suite));
-            assert_units(&checked, &given, &name);
+            for given in of_both_kinds(&given) {
+                let (laid_out, _) = given.laid_out();
+                let checked = Book::check(&given.key, &laid_out).unwrap();
+                assert_eq!(checked.calls(), calls as u64, "{name}");
+                assert_eq!((checked.number(), checked.suite()), (given.number, suite));
+                assert_units(&checked, &given, &name);
+            }
         }
     }
 }
@@ -51,7 +54,7 @@ fn same_books() {
 #[test]
 fn book_vectors_hold() {
     let mut accepted = 0;
-    for v in book_vectors() {
+    for v in book_vectors().into_iter().chain(books_vectors()) {
         // a key of another length has no book
         let Ok(key) = <&[u8; 16]>::try_from(&v.key[..]) else {
             assert_eq!(v.answer, Err(2));
@@ -72,5 +75,5 @@ fn book_vectors_hold() {
             accepted += 1;
         }
     }
-    assert_eq!(accepted, 8);
+    assert_eq!(accepted, 8 + 19);
 }

@@ -5,8 +5,8 @@ mod common;
 use std::cell::Cell;
 use std::sync::Arc;
 
-use common::{assert_unit, book, lengths, suite, written};
-use reference::book::{self as second, places, CIPHERTEXT};
+use common::{assert_unit, book, lengths, of_both_kinds, suite, written};
+use reference::book::{self as second, places, Kind};
 use reference::random::Random;
 use sealed_book::Refusal::{
     FieldMalformed, LanguagesNotAllowed, NoSuchUnit, NumberOutOfOrder, SuiteNotListed, TagDiffers,
@@ -24,7 +24,7 @@ fn assert_reads(given: &second::Book, bytes: &[u8], name: &str) {
     assert_eq!((info.number, info.suite), (book.number(), book.suite()));
     assert_eq!((book.len(), book.is_empty()), (count as u64, count == 0));
     assert_eq!(book.bytes().as_ptr_range(), bytes.as_ptr_range());
-    // a header of 25 bytes, the text with the two bytes of its source's length, a tag; and the close
+    // a header of 25 or 27 bytes, the text with the two bytes of its source's length, a tag; and the close
     let blocks = given
         .units
         .iter()
@@ -56,7 +56,7 @@ fn assert_reads(given: &second::Book, bytes: &[u8], name: &str) {
         assert_eq!(fetch(&given.key, bytes, k as u64), Ok(unit), "{name}");
     }
     let count = count as u64;
-    for k in [count, count + 1, 65_535, 65_536, 1 << 32, u64::MAX] {
+    for k in [count, count + 1, 65_536, 16_777_215, 1 << 32, u64::MAX] {
         assert_eq!(book.fetch(k), Err(NoSuchUnit), "{k} of {name}");
         assert_eq!(
             fetch(&given.key, bytes, k),
@@ -76,8 +76,10 @@ fn books_of_some_units() {
         for (count, end) in [(0, 2), (1, 50), (2, 2), (7, 200), (300, 30)] {
             let lengths = lengths(&mut random, count, end);
             let book = book(&mut random, suite, &lengths);
-            let name = format!("{count} units, {suite}, seed {SEED:X}");
-            assert_reads(&book, &written(&book), &name);
+            for book in of_both_kinds(&book) {
+                let name = format!("{:?}, {count} units, {suite}, seed {SEED:X}", book.kind);
+                assert_reads(&book, &written(&book), &name);
+            }
         }
     }
 }
@@ -96,8 +98,10 @@ fn long_segments() {
             (2, 3),
         ];
         let book = book(&mut random, suite, &lengths);
-        let name = format!("{suite}, seed {:X}", SEED + 1);
-        assert_reads(&book, &written(&book), &name);
+        for book in of_both_kinds(&book) {
+            let name = format!("{:?}, {suite}, seed {:X}", book.kind, SEED + 1);
+            assert_reads(&book, &written(&book), &name);
+        }
     }
 }
 
@@ -108,14 +112,17 @@ fn ciphertext_is_a_part() {
     let mut random = Random::new(SEED + 2);
     let lengths = lengths(&mut random, 20, 300);
     let given = book(&mut random, Suite::SCREAM_8, &lengths);
-    let bytes = written(&given);
-    let book = Book::check(&given.key, &bytes).unwrap();
-    let places = places(&given);
-    for (k, (s, t)) in lengths.into_iter().enumerate() {
-        let start = bytes.as_ptr().wrapping_add(places[k] + CIPHERTEXT);
-        let range = start..start.wrapping_add(2 + s + t);
-        for part in [book.ciphertext(k as u64), ciphertext(&bytes, k as u64)] {
-            assert_eq!(part.unwrap().as_ptr_range(), range, "unit {k}");
+    for given in of_both_kinds(&given) {
+        let bytes = written(&given);
+        let book = Book::check(&given.key, &bytes).unwrap();
+        let places = places(&given);
+        for (k, (s, t)) in lengths.iter().enumerate() {
+            let start = places[k] + given.kind.ciphertext_at();
+            let start = bytes.as_ptr().wrapping_add(start);
+            let range = start..start.wrapping_add(2 + s + t);
+            for part in [book.ciphertext(k as u64), ciphertext(&bytes, k as u64)] {
+                assert_eq!(part.unwrap().as_ptr_range(), range, "unit {k}");
+            }
         }
     }
 }
@@ -198,7 +205,7 @@ fn bytes_that_change() {
         for _ in 0..random.below(3) {
             let at = random.below(then.len() + 1);
             if let Some(byte) = then.get_mut(at) {
-                *byte = random.one_of(&[0, 1, 0x10, 0x12, 0x20, b'e', 0xFF]);
+                *byte = random.one_of(&[0, 1, 0x10, 0x12, 0x14, 0x21, b'e', 0xFF]);
             } else {
                 then.truncate(random.below(then.len() + 1));
             }
@@ -236,11 +243,12 @@ fn bytes_that_change() {
     );
 }
 
-/// The refusal of each byte of a book with two units, when its highest bit is changed.
-fn by_place(places: &[usize], len: usize) -> Vec<Refusal> {
+/// The refusal of each byte of a book of this kind with two units, when its highest bit is changed.
+fn by_place(kind: Kind, places: &[usize], len: usize) -> Vec<Refusal> {
     let [one, two, close] = places else {
         panic!("two units and a close");
     };
+    let number = kind.number_bytes();
     let mut refusals = vec![TagDiffers; len];
     let mut put = |at: usize, count: usize, refusal| refusals[at..at + count].fill(refusal);
     // fields 01 and 02: tags and lengths; the suite
@@ -248,18 +256,18 @@ fn by_place(places: &[usize], len: usize) -> Vec<Refusal> {
     put(11, 3, FieldMalformed);
     put(14, 2, SuiteNotListed);
     for (start, end) in [(*one, *two), (*two, *close)] {
-        // field 10: tag and length, the number, the languages
+        // the header: tag and length, the number, the languages
         put(start, 3, FieldMalformed);
-        put(start + 3, 2, NumberOutOfOrder);
-        put(start + 5, 4, LanguagesNotAllowed);
+        put(start + 3, number, NumberOutOfOrder);
+        put(start + 3 + number, 4, LanguagesNotAllowed);
         // tag and length of fields 11 and 12
-        put(start + 9, 3, FieldMalformed);
+        put(start + 7 + number, 3, FieldMalformed);
         put(end - 19, 3, FieldMalformed);
     }
-    // field 20: tag and length, the count; tag and length of field 12
+    // the close: tag and length, the count; tag and length of field 12
     put(*close, 3, FieldMalformed);
-    put(close + 3, 2, NumberOutOfOrder);
-    put(close + 5, 3, FieldMalformed);
+    put(close + 3, number, NumberOutOfOrder);
+    put(close + 3 + number, 3, FieldMalformed);
     refusals
 }
 
@@ -268,24 +276,26 @@ fn by_place(places: &[usize], len: usize) -> Vec<Refusal> {
 #[test]
 fn changed_bytes() {
     let mut random = Random::new(SEED + 4);
-    for suite in Suite::ALL {
-        let given = book(&mut random, suite, &[(5, 6), (20, 9)]);
+    let books = Suite::ALL.map(|suite| book(&mut random, suite, &[(5, 6), (20, 9)]));
+    for given in books.iter().flat_map(of_both_kinds) {
+        let (suite, kind) = (suite(&given), given.kind);
         let (key, bytes) = (&given.key, written(&given));
         let places = places(&given);
         let [one, two, close] = places[..] else {
             panic!("two units and a close");
         };
-        let refusals = by_place(&places, bytes.len());
+        let refusals = by_place(kind, &places, bytes.len());
         for (at, &refusal) in refusals.iter().enumerate() {
             let mut changed = bytes.clone();
             changed[at] ^= 0x80;
-            let name = format!("byte {at}, {suite}, seed {:X}", SEED + 4);
+            let name = format!("{kind:?}, byte {at}, {suite}, seed {:X}", SEED + 4);
             let checked = Book::check(key, &changed);
             assert_eq!(checked.err(), Some(refusal), "{name}");
 
             // ciphertexts and tags of the units
-            let seal_of_one = at >= one + CIPHERTEXT && at < two && refusal == TagDiffers;
-            let seal_of_two = at >= two + CIPHERTEXT && at < close && refusal == TagDiffers;
+            let start = kind.ciphertext_at();
+            let seal_of_one = at >= one + start && at < two && refusal == TagDiffers;
+            let seal_of_two = at >= two + start && at < close && refusal == TagDiffers;
             let seen = [
                 at < two,
                 at < close && !seal_of_one,
@@ -342,7 +352,7 @@ fn cut_and_lengthened() {
         }
         assert_eq!(fetch(key, cut, 3), Err(FieldMalformed), "{len} bytes");
     }
-    for byte in [0, 0x10, 0x20] {
+    for byte in [0, 0x10, 0x14, 0x20, 0x21] {
         let longer = [&bytes[..], &[byte]].concat();
         assert_eq!(Book::check(key, &longer).err(), Some(FieldMalformed));
         assert_eq!(fetch(key, &longer, 3), Err(FieldMalformed));
@@ -377,7 +387,7 @@ fn fetching_is_the_librarys() {
         let mut changed = bytes.clone();
         for _ in 0..random.below(3) {
             let at = random.below(changed.len());
-            changed[at] = random.one_of(&[0, 1, 2, 0x10, 0x11, 0x12, 0x20, b'a', b'e', 0xFF]);
+            changed[at] = random.one_of(&[0, 1, 2, 0x10, 0x11, 0x12, 0x14, 0x21, b'a', 0xFF]);
         }
         if random.below(4) == 0 {
             changed.truncate(random.below(changed.len() + 1));

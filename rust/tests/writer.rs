@@ -5,13 +5,13 @@ mod common;
 use common::{add, assert_unit, book, lengths, started, suite, written};
 use reference::book::{self as second, places};
 use reference::random::Random;
-use sealed_book::Refusal::{LanguagesNotAllowed, SegmentLength, TooManyUnits};
+use sealed_book::Refusal::{LanguagesNotAllowed, SegmentLength};
 use sealed_book::{ciphertext, clear_unit, raw, Book, Refusal, Suite, Writer};
 
 const SEED: u64 = 0x5752_4954;
 
-/// Known value 8: "Book 7, Scream 10 steps, opens 01 00 08 .. ; unit 0, en to de, goes on 10 00 06 .. ;
-/// with s 5, t 6 and a close it has 84 bytes, 7 calls".
+/// Known value 8: "Book 7, Scream 10 steps, opens 01 00 08 .. ; unit 0, en to de" goes on 14 00 08 .. ; "with s 5,
+/// t 6 and a close" it has 88 bytes, 7 calls.
 #[test]
 fn known_book() {
     let key = [9; 16];
@@ -20,14 +20,15 @@ fn known_book() {
     assert_eq!(writer.written(), opening);
     assert_eq!((writer.units(), writer.calls(), writer.len()), (0, 0, 16));
     assert_eq!(writer.add("en", "de", "valve", "Ventil"), Ok(0));
-    assert_eq!((writer.units(), writer.calls(), writer.len()), (1, 4, 60));
+    assert_eq!((writer.units(), writer.calls(), writer.len()), (1, 4, 62));
     let before = writer.written().to_vec();
     assert_eq!(before[..16], opening);
-    assert_eq!(before[16..25], [0x10, 0, 6, 0, 0, 0x65, 0x6E, 0x64, 0x65]);
+    let head = [0x14, 0, 8, 0, 0, 0, 0, 0x65, 0x6E, 0x64, 0x65];
+    assert_eq!(before[16..27], head);
 
     let (bytes, _) = writer.close().unwrap();
-    assert_eq!(bytes.len(), 84);
-    assert_eq!(bytes[..60], before);
+    assert_eq!(bytes.len(), 88);
+    assert_eq!(bytes[..62], before);
     assert_eq!(Book::check(&key, &bytes).unwrap().calls(), 7);
 }
 
@@ -66,7 +67,7 @@ fn grows() {
         let expected = in_one_buffer(&book);
         let places = places(&book);
         let exact = expected.len();
-        for capacity in [0, 1, 16, 17, 39, 40, 1_000, exact - 1, exact, 3 * exact] {
+        for capacity in [0, 1, 16, 17, 41, 42, 1_000, exact - 1, exact, 3 * exact] {
             let name = format!("{suite}, {capacity} bytes, seed {SEED:X}");
             let mut writer =
                 Writer::with_capacity(suite, &book.key, book.number, capacity).unwrap();
@@ -165,36 +166,36 @@ fn refusals_leave_the_writer() {
     assert!(writer.close().unwrap().0 == in_one_buffer(&book));
 }
 
-/// 65,535 units, and no more: codes and lengths are still refused first. The book is then whole.
+/// More units than two bytes count: codes and lengths are still refused, and the book is whole.
 #[test]
-fn a_full_book() {
+fn past_65_535_units() {
     let mut random = Random::new(SEED + 2);
-    let book = book(&mut random, Suite::SCREAM_6, &vec![(1, 0); 65_535]);
+    let book = book(&mut random, Suite::SCREAM_6, &vec![(1, 0); 65_540]);
     let mut writer = started(&book);
     for (k, unit) in book.units.iter().enumerate() {
         assert_eq!(add(&mut writer, unit), Ok(k as u64));
     }
     let len = writer.len();
-    assert_eq!(writer.add("en", "de", "a", ""), Err(TooManyUnits));
+    assert_eq!(len, 16 + 65_540 * 36);
     assert_eq!(writer.add("en", "de", "", ""), Err(SegmentLength));
     assert_eq!(writer.add("en", "e", "a", ""), Err(LanguagesNotAllowed));
-    assert_eq!((writer.units(), writer.len()), (65_535, len));
+    assert_eq!((writer.units(), writer.len()), (65_540, len));
 
     let (bytes, _) = writer.close().unwrap();
     let checked = Book::check(&book.key, &bytes).unwrap();
     // each unit: two blocks of the header, one of the text, and the tag
-    assert_eq!((checked.len(), checked.calls()), (65_535, 4 * 65_535 + 3));
+    assert_eq!((checked.len(), checked.calls()), (65_540, 4 * 65_540 + 3));
     let mut units = 0;
     for (fetched, added) in checked.iter().zip(&book.units) {
         assert_unit(&fetched.unwrap(), units, added, &format!("unit {units}"));
         units += 1;
     }
-    assert_eq!(units, 65_535);
-    for k in (0..65_535).rev().step_by(31) {
+    assert_eq!(units, 65_540);
+    for k in (0..65_540).rev().step_by(31).chain(65_534..65_538) {
         let unit = checked.fetch(k as u64).unwrap();
         assert_unit(&unit, k, &book.units[k], &format!("unit {k} alone"));
     }
-    assert_eq!(checked.fetch(65_535), Err(Refusal::NoSuchUnit));
+    assert_eq!(checked.fetch(65_540), Err(Refusal::NoSuchUnit));
 }
 
 /// Whatever lends bytes can be added, and need not be text.
@@ -232,7 +233,7 @@ fn debug_shows_no_secret() {
     let mut writer = Writer::start(Suite::SCREAM_10, &key, 7).unwrap();
     writer.add("en", "de", "valve", "Ventil").unwrap();
     let shown = format!("{writer:?}");
-    assert_eq!(shown, "Writer { units: 1, calls: 4, len: 60, .. }");
+    assert_eq!(shown, "Writer { units: 1, calls: 4, len: 62, .. }");
     let (bytes, _) = writer.close().unwrap();
     let book = Book::check(&key, &bytes).unwrap();
     let expected =

@@ -2,16 +2,19 @@
 
     reader.py FILE                      checks the cases of FILE: lines `key book answer`, in hexadecimal
     reader.py --units KEYHEX BOOKFILE   prints the units of the book whose bytes are in BOOKFILE
-    reader.py --example FORMAT.md       checks the section "An example" of that page
+    reader.py --example FORMAT.md       checks the sections "An example" and "An older book" of that page
 """
 import re
 import sys
 from collections import namedtuple
 
 # "A book, byte by byte": a row for each kind. First four tags: of a unit's first field, of its ciphertext, of the tag
-# of a seal, of the close. Then how many bytes a unit's number and the count in the close have, and the units at most.
-Kind = namedtuple("Kind", "unit ciphertext seal close width units_at_most")
-KINDS = [Kind(unit=b"\x10", ciphertext=b"\x11", seal=b"\x12", close=b"\x20", width=2, units_at_most=65535)]
+# of a seal, of the close. Then how many bytes a unit's number and the count in the close have.
+Kind = namedtuple("Kind", "unit ciphertext seal close width")
+KINDS = [Kind(unit=b"\x14", ciphertext=b"\x11", seal=b"\x12", close=b"\x21", width=4),
+         Kind(unit=b"\x10", ciphertext=b"\x11", seal=b"\x12", close=b"\x20", width=2)]
+# "Reading a book", 4: the units at most, whatever the kind. In a book of kind 10 no number is that high.
+UNITS_AT_MOST = 16777215
 # "A book, byte by byte", opening fields: the ciphers and their steps.
 SCREAM, ISCREAM = 1, 2
 STEPS = {SCREAM: (6, 8, 10, 12), ISCREAM: (8, 10, 12, 14)}
@@ -174,7 +177,7 @@ class Book:
         start = self.at
         value = self.field(kind.unit, kind.width + 4)
         first_field, codes = self.data[start:self.at], value[kind.width:]
-        require(len(self.units) < kind.units_at_most, TOO_MANY_UNITS)
+        require(len(self.units) < UNITS_AT_MOST, TOO_MANY_UNITS)
         require(int.from_bytes(value[:kind.width], "big") == len(self.units), UNIT_NUMBER)
         require(re.fullmatch(b"[a-z]{4}", codes) and codes[:2] != codes[2:], LANGUAGES)
         ciphertext = self.field(kind.ciphertext, 3, 8194)
@@ -225,8 +228,8 @@ def print_units(key, path):
         print(k, *unit)
     return True
 
-def check_example(path):
-    section = open(path, encoding="utf-8").read().split("\n## An example\n")[1]
+def check_section(page, heading):
+    section = page.split("\n## %s\n" % heading)[1].split("\n## ")[0]
     key = re.search(r"^`([0-9A-F]{32})`$", section, re.M)[1]
     rows = re.findall(r"^\| (\d+) \| `(.*?)` \|", section, re.M)
     data = bytes.fromhex("".join(value for _, value in rows))
@@ -236,8 +239,14 @@ def check_example(path):
     same_unit = book.units == [(said[1], said[2], said[3].encode(), said[4].encode())]
     table = re.findall(r"^\| \d+: [^|]*\| `(.*?)` \| `(.*?)` \| `(.*?)` \|$", section, re.M)
     same_calls = book.cipher.calls == [tuple(bytes.fromhex(cell) for cell in row) for row in table]
-    print("%d bytes as said: %s; unit: %s; %d calls: %s" % (len(data), same_places, same_unit, len(table), same_calls))
-    return same_places and same_unit and same_calls
+    same_numbers = re.search(r"(\d+)\sbytes\sand\s(\d+)\scalls", section).groups() == (str(len(data)), str(len(table)))
+    print("%s: %d bytes as said: %s; unit: %s; %d calls: %s; both numbers: %s"
+          % (heading, len(data), same_places, same_unit, len(table), same_calls, same_numbers))
+    return same_places and same_unit and same_calls and same_numbers
+
+def check_example(path):
+    page = open(path, encoding="utf-8").read()
+    return all([check_section(page, heading) for heading in ("An example", "An older book")])
 
 if __name__ == "__main__":
     if len(sys.argv) < 2:

@@ -2,12 +2,12 @@
 use mathlib.Core.Path.{_≡_, refl, sym, ap, subst, _∙_}
 use mathlib.Core.Bool.{Bool, true}
 use mathlib.Core.List.{List, [], _∷_, map}
-use Prim.Native.Nat.{ℕ}
+use Prim.Native.Nat.{ℕ, _<_}
 use native.Mathlib.Omega.{arith}
-use lib.ListN.{length}
+use lib.ListN.{length, getD}
 use Rattle.bits.specs.Bytes.{Bytes}
 use Rattle.suites.specs.declared.refusal.Answer.{Answer}
-use Rattle.suites.specs.Told.{gives, told}
+use Rattle.suites.specs.Told.{Told, gives, told}
 use Rattle.fields.specs.Each.{Each, none, more, EachFrom, noneFrom, moreFrom}
 use Rattle.fields.specs.Kind.{Kind, WellFormed}
 use Rattle.kinds.specs.declared.Kind.{Kind as BookKind}
@@ -25,7 +25,7 @@ use Rattle.writer.proofs.Left.{writer-half}
 use Rattle.writer.proofs.Passed.{start-passes}
 use Rattle.checker.specs.Check.{checkAnswer, checkTold}
 use Rattle.checker.specs.Exact.{bookSealings, IsBook}
-use Rattle.checker.proofs.BookKinds.{is-own}
+use Rattle.checker.proofs.BookKinds.{is-own, unit-kind}
 use Rattle.checker.proofs.Exact.{checker-half}
 use Rattle.checker.proofs.Told.{told-accepted}
 use Rattle.parser.proofs.Frames.{readable}
@@ -134,6 +134,47 @@ checks-left key x keyBytes bytes n t e =
     is-left (kindOf k) (formed k) bytes
     (checker-half (kindOf k) (readable k) .accepted key x n t keyBytes bytes (told-accepted (checkAnswer key x) n t e))
 
+-- one list of units, of lists of one kind
+one-kind : (k : BookKind) (h₁ h₂ : History (kindOf k)) → h₁ .start .key ≡ h₂ .start .key → leaves h₁ ≡ leaves h₂ → unitsAdded h₁ ≡ unitsAdded h₂
+unfolding laidOut
+one-kind k h₁ h₂ same e =
+    let l₁ = left (kindOf k) (formed k) h₁ in
+    let l₂ = left (kindOf k) (formed k) h₂ in
+    laid-one (kindOf k) (formed k) (closed h₁) (closed h₂) (l₁ .bookable) (l₂ .bookable) same (sym (l₁ .before) ∙ e ∙ l₂ .before) .2
+
+-- and whatever the kinds of lists that leave one book
+module _ (key x : List ℕ) where
+  kind-told : (k : BookKind) (h : History (kindOf k)) → LeavesBook h key x → (us : List BookUnit) → unitsAdded h ≡ us → 0 < length us → bookKind x ≡ k
+  kind-told k h l [] e some = absurd (omega arith)
+  kind-told k h l (u ∷ us) e some =
+      let b = left-book (kindOf k) (formed k) h l in
+      subst (λ (y : List ℕ). bookKind y ≡ k) ((λ i. bookBytes (kindOf k) (h .start .suite) key (h .start .number) (sym e i)) ∙ b)
+      (unit-kind k (h .start .suite) key (h .start .number) [] u us)
+
+  same-count : (k₁ k₂ : BookKind) (h₁ : History (kindOf k₁)) (h₂ : History (kindOf k₂)) → LeavesBook h₁ key x → LeavesBook h₂ key x
+      → length (unitsAdded h₁) ≡ length (unitsAdded h₂)
+  same-count k₁ k₂ h₁ h₂ l₁ l₂ =
+      left-counted (kindOf k₁) (formed k₁) h₁ l₁
+      ∙ ap (λ (t : Told). getD (t .values) 0 0) (sym (left-checks k₁ h₁ l₁) ∙ left-checks k₂ h₂ l₂)
+      ∙ sym (left-counted (kindOf k₂) (formed k₂) h₂ l₂)
+
+  any-kinds : (k₁ k₂ : BookKind) → k₁ ≡ k₂ → (h₁ : History (kindOf k₁)) (h₂ : History (kindOf k₂)) → LeavesBook h₁ key x → LeavesBook h₂ key x
+      → unitsAdded h₁ ≡ unitsAdded h₂
+  any-kinds k₁ k₂ e =
+      subst (λ (k : BookKind). (h₁ : History (kindOf k₁)) (h₂ : History (kindOf k)) → LeavesBook h₁ key x → LeavesBook h₂ key x → unitsAdded h₁ ≡ unitsAdded h₂) e
+      (λ h₁ h₂ l₁ l₂. one-kind k₁ h₁ h₂ (l₁ .under ∙ sym (l₂ .under)) (l₁ .string ∙ sym (l₂ .string)))
+
+  one-book : (k₁ k₂ : BookKind) (h₁ : History (kindOf k₁)) (h₂ : History (kindOf k₂)) → LeavesBook h₁ key x → LeavesBook h₂ key x
+      → unitsAdded h₁ ≡ unitsAdded h₂
+  one-book k₁ k₂ h₁ h₂ l₁ l₂ = by (unitsAdded h₁) (unitsAdded h₂) refl refl (same-count k₁ k₂ h₁ h₂ l₁ l₂)
+    where
+      by : (us vs : List BookUnit) → unitsAdded h₁ ≡ us → unitsAdded h₂ ≡ vs → length (unitsAdded h₁) ≡ length (unitsAdded h₂) → unitsAdded h₁ ≡ unitsAdded h₂
+      by [] [] e f c = e ∙ sym f
+      by [] (v ∷ vs) e f c = let z = ap length e in let y = ap length f in absurd (omega arith)
+      by (u ∷ us) [] e f c = let z = ap length e in let y = ap length f in absurd (omega arith)
+      by (u ∷ us) (v ∷ vs) e f c =
+          any-kinds k₁ k₂ (sym (kind-told k₁ h₁ l₁ (u ∷ us) e (omega arith)) ∙ kind-told k₂ h₂ l₂ (v ∷ vs) f (omega arith)) h₁ h₂ l₁ l₂
+
 -- the lists of each kind, and check by the book's own kind
 pub demand3 : Demand3
 unfolding checkAnswer laidOut
@@ -145,10 +186,8 @@ demand3 =
         λ e. let (h, l, count, total, buffer) = checks-left key x keyBytes bytes n t e in (bookKind x, h, l, count, total),
         λ (k, h, l, count, total). left-checks k h l ∙ (λ j. gives (count j ∷ total j ∷ [])),
       );
-      one = λ k h₁ h₂ same e.
-          let l₁ = left (kindOf k) (formed k) h₁ in
-          let l₂ = left (kindOf k) (formed k) h₂ in
-          laid-one (kindOf k) (formed k) (closed h₁) (closed h₂) (l₁ .bookable) (l₂ .bookable) same (sym (l₁ .before) ∙ e ∙ l₂ .before) .2;
+      one = one-kind;
+      oneBook = one-book;
       written = λ k. writer-half (kindOf k) (formed k);
       newest = newest-is;
     }

@@ -8,7 +8,7 @@ use Rattle.suites.specs.Told.{Told, refuses}
 use Rattle.kinds.specs.declared.Kind.{Kind as BookKind}
 use Rattle.kinds.specs.Kind.{kindOf, bookKind}
 use Rattle.kinds.proofs.Formed.{formed}
-use Rattle.parser.specs.Opening.{openingBytes, afterOpening}
+use Rattle.opening_fields.specs.Opening.{openingBytes, afterOpening}
 use Rattle.checker.specs.declared.check.CheckAnswer.{CheckAnswer}
 use Rattle.checker.specs.declared.check.CheckAnswer.the-variants.{Accepted, Refused}
 use Rattle.checker.specs.Check.{checkAnswer, checkTold}

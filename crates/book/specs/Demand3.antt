@@ -66,6 +66,9 @@ pub record Demand3 : Type 0 where
   -- (4) "All such lists under that key that leave the same string have the same units in the same order.": kind by kind, closed or not
   pub one : (k : BookKind) (h₁ h₂ : History (kindOf k))
       → h₁ .start .key ≡ h₂ .start .key → leaves h₁ ≡ leaves h₂ → unitsAdded h₁ ≡ unitsAdded h₂
+  -- so a string that check accepts has one list of units, whatever the kinds of the lists that leave it: "each has one list of units"
+  pub oneBook : (key x : List ℕ) (k₁ k₂ : BookKind) (h₁ : History (kindOf k₁)) (h₂ : History (kindOf k₂))
+      → LeavesBook h₁ key x → LeavesBook h₂ key x → unitsAdded h₁ ≡ unitsAdded h₂
   -- Besides the demand's words: what stands before the writer's place and behind it, that the sealings are those of the bytes there, and that
   -- every list of allowed units can be written; and by number how a start and each call of a list are answered. Without it a writer and a
   -- checker that refuse all would do.

@@ -1,3 +1,4 @@
 pub mod Demand3
 pub mod Fetched
+pub mod Limits
 pub mod Paged

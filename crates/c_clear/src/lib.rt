@@ -3,7 +3,7 @@ use suites::refusal::Answer;
 use walk::clear::Clear;
 ghost use mathlib.Core.Path.{_≡_};
 ghost use Rattle.returned.specs.Returned.{returned};
-ghost use Rattle.parser.specs.Opening.{openingNumber, openingSuite, openingTests};
+ghost use Rattle.opening_fields.specs.Opening.{openingNumber, openingSuite, openingTests};
 ghost use Rattle.walk.specs.Clear.{placedClear, unitClear};
 ghost use Rattle.suites.specs.Told.{byAnswer};
 ghost use Rattle.c_clear.specs.Lent.{lent, lentAfter};
@@ -15,14 +15,14 @@ pub extern "C" fn sb_info(book: &[u8], cipher: &mut u8, steps: &mut u8, number: 
         × (now (steps .exit) ≡ byAnswer (openingTests (now (book .entry))) (openingSuite (now (book .entry)) .steps) (now (steps .entry)))
         × (now (number .exit) ≡ byAnswer (openingTests (now (book .entry))) (openingNumber (now (book .entry))) (now (number .entry))) ⌝ }
 {
-    let tested = parser::opening::tests(book);
+    let tested = opening_fields::tests(book);
     match tested {
         Answer::Refused(why) => why.number(),
         Answer::Done => {
-            let suite = parser::opening::suite(book);
+            let suite = opening_fields::suite(book);
             *cipher = suite.cipher;
             *steps = suite.steps;
-            *number = parser::opening::number(book);
+            *number = opening_fields::number(book);
             0
         }
     }

@@ -14,7 +14,7 @@ use Rattle.suites.specs.Refusal.{number}
 use Rattle.suites.specs.declared.refusal.Refusal.the-variants.{TagDiffers}
 use Rattle.bits.proofs.Lists.{part-rest}
 use Rattle.sums.proofs.Sums.{part-none}
-use Rattle.parser.specs.Opening.{checkTests}
+use Rattle.opening_fields.specs.Opening.{checkTests}
 use Rattle.checker.specs.Check.{checkAnswer, checkAnswerOf}
 use Rattle.checker.specs.declared.check.CheckAnswer.{CheckAnswer}
 use Rattle.checker.specs.declared.check.CheckAnswer.the-variants.{Accepted, Refused}

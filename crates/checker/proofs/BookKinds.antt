@@ -18,7 +18,7 @@ use Rattle.format.specs.Sealings.{Sealing, openingFields, unitHeader, closeHead
 use Rattle.checker.specs.Exact.{bookSealings, IsBook}
 
 -- the byte behind the opening fields
-behind : (suite : Suite) (number : ℕ) (rest : List ℕ) → getD (openingFields suite number ++ rest) 16 0 ≡ getD rest 0 0
+pub behind : (suite : Suite) (number : ℕ) (rest : List ℕ) → getD (openingFields suite number ++ rest) 16 0 ≡ getD rest 0 0
 unfolding openingFields field fieldHead bigEndian
 behind suite number rest = refl
 

@@ -22,8 +22,8 @@ use Rattle.format.proofs.Lengths.{length-closeSealed}
 use Rattle.parser.specs.declared.frame.Frame.{Frame}
 use Rattle.parser.specs.declared.frame.Frame.the-variants.{Close}
 use Rattle.parser.specs.Frame.{closeSealed, afterClose, frameOf, frameAt}
-use Rattle.parser.specs.Opening.{openingNumber, openingSuite}
-use Rattle.parser.proofs.Fields.{bytes-value, bytes-after}
+use Rattle.opening_fields.specs.Opening.{openingNumber, openingSuite}
+use Rattle.fields.proofs.Values.{bytes-value, bytes-after}
 use Rattle.parser.proofs.Frames.{close-here, CloseTold, close-told}
 use Rattle.seals.specs.Seal.{closeAlong, closeAgrees, unitSealTests, closeSealTests}
 use Rattle.seals.proofs.Along.{close-along, close-along-here}

@@ -19,8 +19,8 @@ use Rattle.format.specs.Layout.{unitsBytes, closeBytes, bookBytes}
 use Rattle.format.specs.Sealings.{openingFields, unitSealings, closeSealing, callTotal}
 use Rattle.fields.specs.Unit.{BookUnit}
 use Rattle.parser.specs.Frame.{mostUnits, Readable}
-use Rattle.parser.specs.Opening.{openingNumber, openingSuite, openingBytes, afterOpening, openingTests, checkTests}
-use Rattle.parser.proofs.Openings.{opening-here, front-here, front-says, front-rest, front-listed, front-held}
+use Rattle.opening_fields.specs.Opening.{openingNumber, openingSuite, openingBytes, afterOpening, openingTests, checkTests}
+use Rattle.opening_fields.proofs.Openings.{opening-here, front-here, front-says, front-rest, front-listed, front-held}
 use Rattle.checker.specs.Check.{checkFrom, afterTests, checkAnswerOf}
 use Rattle.checker.specs.Exact.{bookSealings, IsBook, CheckerHalf}
 use Rattle.checker.specs.declared.check.CheckAnswer.{CheckAnswer}

@@ -19,7 +19,7 @@ use Rattle.parser.specs.declared.frame.Frame.{Frame}
 use Rattle.parser.specs.declared.frame.Frame.the-variants.{Unit, Close, Refused as FrameRefused}
 use Rattle.kinds.specs.Lengths.{headerLength, closeHeaderLength, unitCalls, closeCalls}
 use Rattle.parser.specs.Frame.{mostUnits, afterUnit}
-use Rattle.parser.specs.Opening.{openingNumber, openingSuite}
+use Rattle.opening_fields.specs.Opening.{openingNumber, openingSuite}
 use Rattle.checker.specs.Check.{checkedAt, byFrame, checkFrom}
 use Rattle.checker.specs.declared.check.CheckAnswer.{CheckAnswer}
 use Rattle.checker.specs.declared.check.CheckAnswer.the-variants.{Accepted}

@@ -27,8 +27,8 @@ use Rattle.fields.proofs.Texts.{length-unitText, bytes-unitText, sourceLength-u
 use Rattle.parser.specs.declared.frame.Frame.{Frame}
 use Rattle.parser.specs.declared.frame.Frame.the-variants.{Unit}
 use Rattle.parser.specs.Frame.{mostUnits, frameDetails, frameFrom, frameTo, afterHeader, frameSealed, afterUnit, frameOf, frameAt}
-use Rattle.parser.specs.Opening.{openingNumber, openingSuite}
-use Rattle.parser.proofs.Fields.{bytes-value, bytes-after}
+use Rattle.opening_fields.specs.Opening.{openingNumber, openingSuite}
+use Rattle.fields.proofs.Values.{bytes-value, bytes-after}
 use Rattle.parser.proofs.Frames.{unitFrame, unit-here, UnitTold, unit-told}
 use Rattle.seals.specs.Seal.{unitAlong, unitOpened, unitAgrees, unitSealTests, closeSealTests}
 use Rattle.seals.proofs.Along.{unit-along, unit-along-here}
@@ -49,7 +49,7 @@ module _ (kind : Kind) (s : List ℕ) (b : Bytes s) where
       bytes-append (fieldValue m r) (fieldValue 16 (afterField m r)) (bytes-value m r bytes-header)
       (bytes-value 16 (afterField m r) (bytes-after m r bytes-header))
 
-  bytes-rest : (m : ℕ) → Bytes (afterUnit kind m s)
+  pub bytes-rest : (m : ℕ) → Bytes (afterUnit kind m s)
   unfolding afterUnit
   bytes-rest m =
       let r = afterHeader kind s in

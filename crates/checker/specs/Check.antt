@@ -14,7 +14,7 @@ use Rattle.kinds.specs.Lengths.{unitCalls, closeCalls}
 use Rattle.parser.specs.declared.frame.Frame.{Frame}
 use Rattle.parser.specs.declared.frame.Frame.the-variants.{Unit, Close, Refused as FrameRefused}
 use Rattle.parser.specs.Frame.{mostUnits, afterUnit, frameOf, frameAt}
-use Rattle.parser.specs.Opening.{openingBytes, afterOpening, checkTests}
+use Rattle.opening_fields.specs.Opening.{openingBytes, afterOpening, checkTests}
 use Rattle.seals.specs.Seal.{unitSealTests, closeSealTests}
 use Rattle.checker.specs.declared.check.CheckAnswer.{CheckAnswer}
 use Rattle.checker.specs.declared.check.CheckAnswer.the-variants.{Accepted, Refused as CheckRefused}

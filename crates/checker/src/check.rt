@@ -71,7 +71,7 @@ fn check_from(kind: Kind, key: &[u8], front: &[u8], s: &[u8]) -> CheckAnswer
 pub fn check(key: &[u8], book: &[u8]) -> CheckAnswer
     ensures { λ r. ⌜ r ≡ checkAnswer (now (key .entry)) (now (book .entry)) ⌝ }
 {
-    let tested = parser::opening::tests_under(key, book);
+    let tested = opening_fields::tests_under(key, book);
     match tested {
         Answer::Refused(why) => CheckAnswer::Refused(why),
         Answer::Done => check_from(Kind::of_book(book), key, &book[..16], &book[16..]),

@@ -25,8 +25,8 @@ use Rattle.format.proofs.Lengths.{range-told}
 use Rattle.parser.specs.declared.frame.Frame.{Frame}
 use Rattle.parser.specs.declared.frame.Frame.the-variants.{Unit, Close, Refused as FrameRefused}
 use Rattle.parser.specs.Frame.{afterUnit, frameOf, frameAt}
-use Rattle.parser.specs.Opening.{openingNumber, openingSuite, openingBytes, afterOpening, openingTests, checkTests}
-use Rattle.parser.proofs.Openings.{opening-passed, front-suite, front-number, front-held}
+use Rattle.opening_fields.specs.Opening.{openingNumber, openingSuite, openingBytes, afterOpening, openingTests, checkTests}
+use Rattle.opening_fields.proofs.Openings.{opening-passed, front-suite, front-number, front-held}
 use Rattle.seals.specs.Seal.{unitOpened, unitSealTests, closeSealTests}
 use Rattle.checker.specs.Check.{withSeal, checkedAt}
 use Rattle.checker.proofs.Units.{UnitRead, unit-read}

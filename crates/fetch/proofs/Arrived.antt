@@ -24,8 +24,8 @@ use Rattle.format.specs.Layout.{unitsBytes}
 use Rattle.format.specs.Sealings.{openingFields}
 use Rattle.format.proofs.Lengths.{length-openingFields}
 use Rattle.parser.specs.Frame.{frameAt}
-use Rattle.parser.specs.Opening.{openingTests, checkTests}
-use Rattle.parser.proofs.Openings.{opening-here, front-here}
+use Rattle.opening_fields.specs.Opening.{openingTests, checkTests}
+use Rattle.opening_fields.proofs.Openings.{opening-here, front-here}
 use Rattle.fetch.specs.declared.unit.FetchAnswer.the-variants.{Fetched, Refused as FetchRefused}
 use Rattle.walk.specs.Walk.{walkTo}
 use Rattle.walk.specs.Clear.{clearOf, clearUnless, placedClearOf, unitClearOf}

@@ -26,7 +26,7 @@ use Rattle.kinds.proofs.Formed.{formed}
 use Rattle.parser.specs.declared.frame.Frame.the-variants.{Unit, Close}
 use Rattle.parser.specs.Frame.{mostUnits, frameAt}
 use Rattle.parser.proofs.Frames.{readable}
-use Rattle.parser.specs.Opening.{afterOpening}
+use Rattle.opening_fields.specs.Opening.{afterOpening}
 use Rattle.checker.proofs.BookKinds.{own-kind, unit-kind}
 use Rattle.walk.specs.declared.clear.Clear.{Clear}
 use Rattle.walk.specs.declared.ciphertext.Part.{Part}

@@ -19,7 +19,7 @@ use Rattle.fields.specs.Unit.{BookUnit, unitText, sourceLength, sourceOf, targe
 use Rattle.fields.proofs.Texts.{sourceOf-unitText, targetOf-unitText, length-sourceOf, length-targetOf}
 use Rattle.parser.specs.declared.frame.Frame.{Frame}
 use Rattle.parser.specs.Frame.{frameAt}
-use Rattle.parser.specs.Opening.{openingBytes, afterOpening, checkTests}
+use Rattle.opening_fields.specs.Opening.{openingBytes, afterOpening, checkTests}
 use Rattle.seals.specs.Seal.{unitOpened}
 use Rattle.walk.specs.declared.Place.{Place}
 use Rattle.fetch.specs.declared.unit.FetchAnswer.{FetchAnswer}

@@ -21,7 +21,7 @@ use Rattle.kinds.specs.declared.Kind.{Kind as BookKind}
 use Rattle.kinds.specs.Kind.{kindOf}
 use Rattle.format.specs.Sealings.{nonceOf}
 use Rattle.parser.specs.Frame.{frameSealed}
-use Rattle.parser.specs.Opening.{openingNumber, openingSuite}
+use Rattle.opening_fields.specs.Opening.{openingNumber, openingSuite}
 use Rattle.parser.proofs.Frames.{UnitTold}
 use Rattle.seals.specs.Parts.{Under}
 use Rattle.seals.specs.Seal.{unitAlong, unitOpened, unitAgrees, unitSealTests}

@@ -15,8 +15,8 @@ use Rattle.parser.specs.declared.frame.Frame.{Frame}
 use Rattle.parser.specs.declared.frame.Frame.the-variants.{Unit, Close}
 use Rattle.format.specs.Sealings.{openingFields}
 use Rattle.parser.specs.Frame.{mostUnits, frameFrom, frameTo, frameAt}
-use Rattle.parser.specs.Opening.{openingNumber, openingSuite}
-use Rattle.parser.proofs.Openings.{front-says}
+use Rattle.opening_fields.specs.Opening.{openingNumber, openingSuite}
+use Rattle.opening_fields.proofs.Openings.{front-says}
 use Rattle.seals.specs.Seal.{unitOpened, unitSealTests, closeSealTests}
 use Rattle.checker.specs.Check.{checkedAt}
 use Rattle.checker.proofs.Sealed.{unit-sealed, close-sealed}

@@ -13,7 +13,7 @@ use Rattle.kinds.specs.Kind.{kindOf, bookKind}
 use Rattle.format.specs.Layout.{unitBytes}
 use Rattle.format.specs.Sealings.{openingFields}
 use Rattle.parser.specs.Frame.{mostUnits}
-use Rattle.parser.specs.Opening.{openingNumber, openingSuite, openingBytes, afterOpening}
+use Rattle.opening_fields.specs.Opening.{openingNumber, openingSuite, openingBytes, afterOpening}
 use Rattle.walk.specs.declared.Place.{Place}
 use Rattle.walk.specs.Walk.{walkTo}
 use Rattle.fetch.specs.Fetch.{fetchAnswer, fetchTold, fetchBuffer, placedAnswer, placedTold, placedBuffer}

@@ -20,7 +20,7 @@ use Rattle.fields.specs.Unit.{sourceLength, sourceOf, targetOf, textInRange}
 use Rattle.parser.specs.declared.frame.Frame.{Frame}
 use Rattle.parser.specs.declared.frame.Frame.the-variants.{Unit, Close, Refused as FrameRefused}
 use Rattle.parser.specs.Frame.{frameAt}
-use Rattle.parser.specs.Opening.{openingBytes, afterOpening, checkTests}
+use Rattle.opening_fields.specs.Opening.{openingBytes, afterOpening, checkTests}
 use Rattle.seals.specs.Seal.{unitOpened, unitSealTests, closeSealTests}
 use Rattle.walk.specs.declared.Place.{Place}
 use Rattle.fetch.specs.declared.unit.FetchAnswer.{FetchAnswer}

@@ -11,7 +11,7 @@ ghost use Rattle.suites.specs.declared.refusal.Answer.the-variants.{Done, Refus
 ghost use Rattle.suites.specs.declared.refusal.Refusal.the-variants.{NoSuchUnit};
 ghost use Rattle.kinds.specs.Kind.{kindOf};
 ghost use Rattle.parser.specs.Frame.{frameAt};
-ghost use Rattle.parser.specs.Opening.{openingBytes, checkTests};
+ghost use Rattle.opening_fields.specs.Opening.{openingBytes, checkTests};
 ghost use Rattle.seals.specs.Parts.{Under};
 ghost use Rattle.seals.specs.Seal.{unitOpened};
 ghost use Rattle.fetch.specs.Fetch.{andThen, textOutcome, unitOutcome, outcomeHere, textAt, nextOf, placedReport};
@@ -80,7 +80,7 @@ fn unit(
         (unitOpened (kindOf kind) (now (key .entry)) (now (front .entry)) n m (now (s .entry)))
         (now (out .entry)) r (now (out .exit)) ⌝ }
 {
-    let suite = parser::opening::suite(front);
+    let suite = opening_fields::suite(front);
     let p = seals::unit_parts(kind, front, n, m, s);
     let nonce = p.nonce;
     let along = p.along;
@@ -180,7 +180,7 @@ pub fn fetch_placed(key: &[u8], book: &[u8], n: u64, at: usize, out: &mut [u8]) 
     ensures { λ r. ⌜ (r ≡ placedAnswer (now (key .entry)) (now (book .entry)) n at (now (out .entry)))
         × (now (out .exit) ≡ placedBuffer (now (key .entry)) (now (book .entry)) n at (now (out .entry))) ⌝ }
 {
-    let tested = parser::opening::tests_under(key, book);
+    let tested = opening_fields::tests_under(key, book);
     match tested {
         Answer::Refused(why) => PlacedAnswer::Refused(why),
         Answer::Done => at_place(Kind::of_book(book), key, book, n, at, out),
@@ -193,7 +193,7 @@ pub fn fetch(key: &[u8], book: &[u8], k: u64, out: &mut [u8]) -> FetchAnswer
     ensures { λ r. ⌜ (r ≡ fetchAnswer (now (key .entry)) (now (book .entry)) k (now (out .entry)))
         × (now (out .exit) ≡ fetchBuffer (now (key .entry)) (now (book .entry)) k (now (out .entry))) ⌝ }
 {
-    let tested = parser::opening::tests_under(key, book);
+    let tested = opening_fields::tests_under(key, book);
     match tested {
         Answer::Refused(why) => FetchAnswer::Refused(why),
         Answer::Done => {

@@ -5,3 +5,4 @@ pub mod Texts
 pub mod Languages
 pub mod Details
 pub mod Pair
+pub mod Values

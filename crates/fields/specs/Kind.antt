@@ -18,9 +18,13 @@ pub record Kind : Type 0 where
 abbrev pub kind10 : Kind
 kind10 = record { headerTag = 0x10; closeTag = 0x20; numberBytes = 2; codeBytes = 2; unitLimit = 65535 }
 
--- the kind that the writer makes
+-- "Unit header and close get 4-byte numbers, under tags 14 and 21 (hexadecimal); at most 16,777,215 units."
+abbrev pub kind14 : Kind
+kind14 = record { headerTag = 0x14; closeTag = 0x21; numberBytes = 4; codeBytes = 2; unitLimit = 16777215 }
+
+-- "The writer makes only the wide kind."
 abbrev pub writerKind : Kind
-writerKind = kind10
+writerKind = kind14
 
 -- what the laws ask of a kind
 pub record WellFormed (k : Kind) : Type 0 where

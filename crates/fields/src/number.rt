@@ -25,6 +25,13 @@ fn then(v: u64, b: u8) -> u64
     v * 256 + (b as u64)
 }
 
+// Four bytes as a number, the highest first.
+pub fn four(a: u8, b: u8, c: u8, d: u8) -> u64
+    ensures { λ r. ⌜ r ≡ ((a * 256 + b) * 256 + c) * 256 + d ⌝ }
+{
+    (((a as u64) * 256 + (b as u64)) * 256 + (c as u64)) * 256 + (d as u64)
+}
+
 // The number of the bytes of s, of the first eight if there are more.
 pub fn of(s: &[u8]) -> u64
     ensures { λ r. ⌜ r ≡ numberOf (take 8 (now (s .entry))) ⌝ }

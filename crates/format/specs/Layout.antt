@@ -19,13 +19,13 @@ use Rattle.fields.specs.Unit.{BookUnit, Allowed, detailsOf, unitText}
 unfoldable pub sealedFields : ℕ → List ℕ → List ℕ
 sealedFields m s = field 0x11 (take m s) ++ field 0x12 (drop m s)
 
--- unit n of a book under a suite, a key and a book number: "A unit: 10, 11, 12"
+-- unit n of a book under a suite, a key and a book number: "A unit: 10, 11, 12", with the kind's tag in place of 10
 unfoldable pub unitBytes : Kind → Suite → List ℕ → ℕ → ℕ → BookUnit → List ℕ
 unitBytes kind suite key number n u =
     unitHeader kind n (detailsOf kind u)
     ++ sealedFields (length (unitText (u .source) (u .target))) (sealedBytes suite key (unitSealing kind suite number n u))
 
--- its close after n units: "Close: 20 (2 bytes, unit count), 12"
+-- its close after n units: "Close: 20 (2 bytes, unit count), 12", likewise
 unfoldable pub closeBytes : Kind → Suite → List ℕ → ℕ → ℕ → List ℕ
 closeBytes kind suite key number n = closeHeader kind n ++ field 0x12 (sealedBytes suite key (closeSealing kind suite number n))
 
@@ -48,7 +48,7 @@ pub record Bookable (kind : Kind) (suite : Suite) (key : List ℕ) (number : ℕ
   pub units : EachFrom (Allowed kind) 0 us
   pub few : length us ≤ kind .unitLimit
 
--- "A book takes 16 + the sum of (33 + s + t) + 24 bytes" (length-bookBytes)
+-- "A book takes 16 + the sum of (33 + s + t) + 24 bytes", of kind 14 16 + the sum of (35 + s + t) + 26 (length-bookBytes)
 unfoldable pub bookLength : Kind → List BookUnit → ℕ
 bookLength kind [] = 16 + closeLength kind
 bookLength kind (u ∷ us) = unitLength kind (length (u .source)) (length (u .target)) + bookLength kind us

@@ -15,11 +15,11 @@ use Rattle.fields.specs.Unit.{BookUnit, detailsOf, unitText}
 unfoldable pub openingFields : Suite → ℕ → List ℕ
 openingFields suite number = field 0x01 (bigEndian 8 number) ++ field 0x02 (suite .cipher ∷ suite .steps ∷ [])
 
--- "10 (6 bytes: unit number, source and target language, two bytes each)"
+-- "10 (6 bytes: unit number, source and target language, two bytes each)": of kind 10; tag and widths are the kind's
 unfoldable pub unitHeader : Kind → ℕ → List ℕ → List ℕ
 unitHeader kind n details = field (kind .headerTag) (bigEndian (kind .numberBytes) n ++ details)
 
--- "Close: 20 (2 bytes, unit count)"
+-- "Close: 20 (2 bytes, unit count)", likewise
 unfoldable pub closeHeader : Kind → ℕ → List ℕ
 closeHeader kind n = field (kind .closeTag) (bigEndian (kind .numberBytes) n)
 
@@ -33,7 +33,8 @@ pub record Sealing : Type 0 where
   pub header : List ℕ
   pub text : List ℕ
 
--- "The header sealed along is fields 01, 02 and 10 (25 bytes) or 20 (21 bytes)": unit n of a book
+-- "The header sealed along is fields 01, 02 and 10 (25 bytes) or 20 (21 bytes)", of kind 14 fields 01, 02 and 14 (27 bytes) or 21 (23 bytes):
+-- it follows "the fields that the writer makes". Unit n of a book
 unfoldable pub unitSealing : Kind → Suite → ℕ → ℕ → BookUnit → Sealing
 unitSealing kind suite number n u =
     record {

@@ -8,6 +8,7 @@ ghost use Rattle.kinds.specs.Lengths.{frameLength, unitLength, closeLeng
 // A kind has the name of the tag of its unit headers.
 pub enum Kind {
     Tag10,
+    Tag14,
 }
 
 impl Kind {
@@ -15,14 +16,18 @@ impl Kind {
     pub fn newest() -> Kind
         ensures { λ r. ⌜ r ≡ newest ⌝ }
     {
-        Kind::Tag10
+        Kind::Tag14
     }
 
-    // The kind that the byte behind a book's opening fields says. There is one kind, whatever the byte.
+    // The kind that the byte behind a book's opening fields says. A byte that is no tag of any kind says none, and any will do.
     fn by(b: u8) -> Kind
         ensures { λ r. ⌜ r ≡ kindBy b ⌝ }
     {
-        Kind::Tag10
+        if (b == 0x10) | (b == 0x20) {
+            Kind::Tag10
+        } else {
+            Kind::Tag14
+        }
     }
 
     // The kind of a book.
@@ -41,6 +46,7 @@ impl Kind {
     {
         match self {
             Kind::Tag10 => 0x10,
+            Kind::Tag14 => 0x14,
         }
     }
 
@@ -50,6 +56,7 @@ impl Kind {
     {
         match self {
             Kind::Tag10 => 0x20,
+            Kind::Tag14 => 0x21,
         }
     }
 
@@ -59,6 +66,7 @@ impl Kind {
     {
         match self {
             Kind::Tag10 => 2,
+            Kind::Tag14 => 4,
         }
     }
 
@@ -68,6 +76,7 @@ impl Kind {
     {
         match self {
             Kind::Tag10 => 2,
+            Kind::Tag14 => 2,
         }
     }
 
@@ -77,6 +86,7 @@ impl Kind {
     {
         match self {
             Kind::Tag10 => 65535,
+            Kind::Tag14 => 16777215,
         }
     }
 

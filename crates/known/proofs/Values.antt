@@ -1,5 +1,5 @@
 -- The known values hold.
-use mathlib.Core.Path.{_≡_, refl, ap}
+use mathlib.Core.Path.{_≡_, refl, sym, ap}
 use mathlib.Core.List.{[], _∷_}
 use Prim.Native.Nat.{ℕ}
 use native.Mathlib.Omega.{arith}
@@ -13,7 +13,10 @@ use Rattle.calls.specs.Tweak.{tweak}
 use Rattle.rounds.specs.Tweakey.{φ}
 use Rattle.fields.specs.Each.{EachFrom, noneFrom, moreFrom}
 use Rattle.fields.specs.Field.{field, fieldHead}
-use Rattle.fields.specs.Kind.{kind10}
+use Rattle.kinds.specs.declared.Kind.{Kind as BookKind}
+use Rattle.kinds.specs.declared.Kind.the-variants.{Tag10}
+use Rattle.kinds.specs.Kind.{kindOf, newest}
+use Rattle.kinds.proofs.Formed.{two-letters}
 use Rattle.fields.specs.Languages.{letters, pairAllowed}
 use Rattle.fields.specs.Unit.{Allowed, unitText, detailsOf}
 use Rattle.format.specs.Layout.{bookBytes, unitsBytes, unitBytes, bookLength}
@@ -22,15 +25,15 @@ use Rattle.format.proofs.Lengths.{length-bookBytes}
 use Rattle.checker.specs.Exact.{bookSealings}
 use Rattle.known.specs.Known.{scream10, key8, number8, units8, book8, known, KnownHold}
 
-units-allowed : EachFrom (Allowed kind10) 0 units8
+units-allowed : (k : BookKind) → EachFrom (Allowed (kindOf k)) 0 units8
 unfolding letters pairAllowed
-units-allowed =
+units-allowed k =
     moreFrom
     (record {
       given =
           record {
-            fromLong = refl;
-            toLong = refl;
+            fromLong = sym (two-letters k);
+            toLong = sym (two-letters k);
             fromBytes = bytes-cons 0x65 (0x6E ∷ []) (omega arith) (bytes-cons 0x6E [] (omega arith) bytes-nil);
             toBytes = bytes-cons 0x64 (0x65 ∷ []) (omega arith) (bytes-cons 0x65 [] (omega arith) bytes-nil);
             sourceBytes = bytes-zeros 5;
@@ -42,13 +45,13 @@ units-allowed =
     noneFrom
 
 -- by the law: to count the sealed bytes would be to seal
-book-length : length book8 ≡ 84
-unfolding bookLength
-book-length = length-bookBytes kind10 scream10 key8 number8 units8 units-allowed
+book-length : (k : BookKind) → length (book8 (kindOf k)) ≡ bookLength (kindOf k) units8
+book-length k = length-bookBytes (kindOf k) scream10 key8 number8 units8 (units-allowed k)
 
 pub known-hold : KnownHold known
 unfolding known Sbox.scream Sbox.iscream Lbox.iscream Lbox.times Lbox.dot φ tweak bigEndian calls blockCalls field fieldHead openingFields unitHeader
-    closeHeader unitText detailsOf bookBytes unitsBytes unitBytes unitSealing closeSealing unitSealings sealingCalls cipherCalls bookSealings
+    closeHeader unitText detailsOf bookBytes unitsBytes unitBytes unitSealing closeSealing unitSealings sealingCalls cipherCalls bookSealings bookLength
 known-hold =
-    let book : KnownHold (drop 17 known) = (refl, (refl, (ap (λ (n : ℕ). n ∷ []) book-length, (refl, tt)))) in
-    (refl, (refl, (refl, (refl, (refl, (refl, (refl, (refl, (refl, (refl, (refl, (refl, (refl, (refl, (refl, (refl, (refl, book)))))))))))))))))
+    let wide : KnownHold (drop 21 known) = (refl, (refl, (ap (λ (n : ℕ). n ∷ []) (book-length newest), (refl, (refl, (refl, tt)))))) in
+    let old : KnownHold (drop 17 known) = (refl, (refl, (ap (λ (n : ℕ). n ∷ []) (book-length Tag10), (refl, wide)))) in
+    (refl, (refl, (refl, (refl, (refl, (refl, (refl, (refl, (refl, (refl, (refl, (refl, (refl, (refl, (refl, (refl, (refl, old)))))))))))))))))

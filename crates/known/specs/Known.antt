@@ -1,6 +1,6 @@
 -- The known values that the prover checks: one list, each as the definitions compute it beside what the scope states.
 use mathlib.Core.Path.{_≡_}
-use mathlib.Core.List.{List, [], _∷_}
+use mathlib.Core.List.{List, [], _∷_, map}
 use Prim.Native.Nat.{ℕ}
 use lib.ListN.{length, getD, take, drop, replicate}
 use Rattle.sbox.specs.Sbox
@@ -8,7 +8,7 @@ use Rattle.lbox.specs.Lbox
 use Rattle.calls.specs.Calls.{calls}
 use Rattle.calls.specs.Tweak.{textTweak, headerTweak}
 use Rattle.suites.specs.declared.suite.Suite.{Suite}
-use Rattle.fields.specs.Kind.{kind10}
+use Rattle.fields.specs.Kind.{Kind, kind10, writerKind}
 use Rattle.format.specs.Layout.{bookBytes}
 use Rattle.format.specs.Sealings.{Sealing, cipherCalls}
 use Rattle.fields.specs.Unit.{BookUnit, unitOf}
@@ -39,7 +39,8 @@ callsFor a m = length (calls (0 ∷ []) (replicate a 0) (replicate m 0))
 abbrev pub scream10 : Suite
 scream10 = record { cipher = 1; steps = 10 }
 
--- value 8's book: its key, number and units, one from en to de with a source of 5 bytes and a target of 6; its bytes, and its sealings
+-- value 8's book: its key, number and units, one from en to de with a source of 5 bytes and a target of 6; its bytes, and its sealings, in a
+-- book of a kind
 abbrev pub key8 : List ℕ
 key8 = replicate 16 0
 
@@ -49,11 +50,15 @@ number8 = 7
 abbrev pub units8 : List BookUnit
 units8 = unitOf (0x65 ∷ 0x6E ∷ []) (0x64 ∷ 0x65 ∷ []) (replicate 5 0) (replicate 6 0) ∷ []
 
-abbrev pub book8 : List ℕ
-book8 = bookBytes kind10 scream10 key8 number8 units8
+abbrev pub book8 : Kind → List ℕ
+book8 kind = bookBytes kind scream10 key8 number8 units8
 
-abbrev sealings8 : List Sealing
-sealings8 = bookSealings kind10 scream10 number8 units8
+abbrev sealings8 : Kind → List Sealing
+sealings8 kind = bookSealings kind scream10 number8 units8
+
+-- "opens 01 00 08 00 00 00 00 00 00 00 07 02 00 02 01 0A"
+abbrev opening8 : List ℕ
+opening8 = 0x01 ∷ 0x00 ∷ 0x08 ∷ 0x00 ∷ 0x00 ∷ 0x00 ∷ 0x00 ∷ 0x00 ∷ 0x00 ∷ 0x00 ∷ 0x07 ∷ 0x02 ∷ 0x00 ∷ 0x02 ∷ 0x01 ∷ 0x0A ∷ []
 
 unfoldable pub known : List Value
 known =
@@ -81,14 +86,21 @@ known =
     is (callsFor 16 16) 3 ∷
     is (callsFor 17 17) 5 ∷
     is (callsFor 25 13) 4 ∷
-    -- 8: "Book 7, Scream 10 steps, opens 01 00 08 00 00 00 00 00 00 00 07 02 00 02 01 0A"
-    are (take 16 book8)
-    (0x01 ∷ 0x00 ∷ 0x08 ∷ 0x00 ∷ 0x00 ∷ 0x00 ∷ 0x00 ∷ 0x00 ∷ 0x00 ∷ 0x00 ∷ 0x07 ∷ 0x02 ∷ 0x00 ∷ 0x02 ∷ 0x01 ∷ 0x0A ∷ []) ∷
+    -- 8: "Book 7, Scream 10 steps, opens 01 00 08 00 00 00 00 00 00 00 07 02 00 02 01 0A": "case 8 as printed stays as an old book"
+    are (take 16 (book8 kind10)) opening8 ∷
     -- "unit 0, en to de, goes on 10 00 06 00 00 65 6E 64 65"
-    are (take 9 (drop 16 book8)) (0x10 ∷ 0x00 ∷ 0x06 ∷ 0x00 ∷ 0x00 ∷ 0x65 ∷ 0x6E ∷ 0x64 ∷ 0x65 ∷ []) ∷
+    are (take 9 (drop 16 (book8 kind10))) (0x10 ∷ 0x00 ∷ 0x06 ∷ 0x00 ∷ 0x00 ∷ 0x65 ∷ 0x6E ∷ 0x64 ∷ 0x65 ∷ []) ∷
     -- "with s 5, t 6 and a close it has 84 bytes, 7 calls"
-    is (length book8) 84 ∷
-    is (length (cipherCalls sealings8)) 7 ∷
+    is (length (book8 kind10)) 84 ∷
+    is (length (cipherCalls (sealings8 kind10))) 7 ∷
+    -- the same as the writer makes it: case 8 follows "the fields that the writer makes, here (88 bytes, 7 calls)"
+    are (take 16 (book8 writerKind)) opening8 ∷
+    are (take 11 (drop 16 (book8 writerKind))) (0x14 ∷ 0x00 ∷ 0x08 ∷ 0x00 ∷ 0x00 ∷ 0x00 ∷ 0x00 ∷ 0x65 ∷ 0x6E ∷ 0x64 ∷ 0x65 ∷ []) ∷
+    is (length (book8 writerKind)) 88 ∷
+    is (length (cipherCalls (sealings8 writerKind))) 7 ∷
+    -- "The header sealed along is fields 01, 02 and 10 (25 bytes) or 20 (21 bytes)", and as the writer makes them
+    are (map (λ s. length (s .header)) (sealings8 kind10)) (25 ∷ 21 ∷ []) ∷
+    are (map (λ s. length (s .header)) (sealings8 writerKind)) (27 ∷ 23 ∷ []) ∷
     []
 
 -- each value of a list is computed as it is stated

@@ -22,7 +22,7 @@ use Rattle.kinds.specs.Lengths.{unitCalls, closeCalls}
 use Rattle.parser.specs.declared.frame.Frame.{Frame}
 use Rattle.parser.specs.declared.frame.Frame.the-variants.{Unit, Close, Refused as FrameRefused}
 use Rattle.parser.specs.Frame.{mostUnits, afterUnit, frameAt}
-use Rattle.parser.specs.Opening.{openingBytes, afterOpening, checkTests}
+use Rattle.opening_fields.specs.Opening.{openingBytes, afterOpening, checkTests}
 use Rattle.parser.proofs.Frames.{UnitTold, unit-length}
 use Rattle.seals.specs.Parts.{Under}
 use Rattle.seals.specs.Seal.{unitSealTests, closeSealTests}

@@ -18,9 +18,9 @@ use Rattle.kinds.specs.declared.Kind.{Kind as BookKind}
 use Rattle.kinds.specs.Kind.{kindOf, bookKind}
 use Rattle.kinds.proofs.Formed.{formed}
 use Rattle.parser.specs.Frame.{mostUnits, afterUnit}
-use Rattle.parser.specs.Opening.{openingNumber, openingSuite, openingBytes, afterOpening}
+use Rattle.opening_fields.specs.Opening.{openingNumber, openingSuite, openingBytes, afterOpening}
 use Rattle.parser.proofs.Frames.{readable}
-use Rattle.parser.proofs.Openings.{front-here, front-says}
+use Rattle.opening_fields.proofs.Openings.{front-here, front-says}
 use Rattle.seals.specs.Seal.{unitOpened}
 use Rattle.checker.proofs.BookKinds.{own-kind}
 use Rattle.checker.proofs.Units.{unit-written, unit-opened}

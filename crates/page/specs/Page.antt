@@ -16,7 +16,7 @@ use Rattle.fields.specs.Kind.{Kind}
 use Rattle.fields.specs.Unit.{sourceOf}
 use Rattle.kinds.specs.Kind.{kindOf, bookKind}
 use Rattle.parser.specs.Frame.{afterHeader, afterUnit}
-use Rattle.parser.specs.Opening.{openingBytes, afterOpening}
+use Rattle.opening_fields.specs.Opening.{openingBytes, afterOpening}
 use Rattle.seals.specs.Seal.{unitOpened}
 use Rattle.checker.specs.declared.check.CheckAnswer.{CheckAnswer}
 use Rattle.checker.specs.declared.check.CheckAnswer.the-variants.{Accepted, Refused as CheckRefused}

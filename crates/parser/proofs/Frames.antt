@@ -1,18 +1,19 @@
 -- Frames: fields that are written are read back, and those that are read were written.
 use mathlib.Core.Path.{_≡_, refl, sym, ap, subst, _∙_}
-use mathlib.Core.Bool.{Bool, true, false, _&&_, and-eq-true-iff}
+use mathlib.Core.Bool.{Bool, true, false, _&&_, and-eq-true-iff, and-false}
 use mathlib.Core.List.{List, _++_, append-assoc}
 use Prim.Native.Nat.{ℕ, _+_, _^_, _≤_, _<_}
 use native.Mathlib.Omega.{arith}
 use borrow.Author.Tests.{ltb-true, leb-true, eqb-true, lt-ltb, le-leb, eq-eqb, ne-eqb}
 use lib.Dec.{eqb, leb, ltb}
-use lib.ListN.{length, take, drop, length-append, length-drop, take-append-drop}
+use lib.ListN.{length, getD, take, drop, length-append, length-drop, take-append-drop}
 use lib.Seq.{take-at, drop-at, take-all, take-add, drop-drop, length-take-le}
 use Rattle.bits.specs.Bytes.{Bytes, bigEndian, numberOf}
 use Rattle.bits.proofs.BigEndian.{length-bigEndian, numberOf-lt, bigEndian-numberOf, numberOf-bigEndian}
 use Rattle.bits.proofs.Bytes.{bytes-take, bytes-drop}
 use Rattle.suites.specs.declared.refusal.Answer.{Answer}
 use Rattle.suites.specs.declared.refusal.Answer.the-variants.{Done, Refused}
+use Rattle.suites.specs.declared.refusal.Refusal.the-variants.{FieldMalformed}
 use Rattle.limits.proofs.Passed.{unless-passed, unless-passes}
 use Rattle.fields.specs.Field.{fieldHead, field, fieldLength, hasField, fieldValue, afterField}
 use Rattle.fields.specs.Kind.{Kind, WellFormed}
@@ -21,7 +22,7 @@ use Rattle.format.specs.Layout.{sealedFields}
 use Rattle.format.specs.Sealings.{unitHeader, closeHeader}
 use Rattle.fields.specs.Unit.{detailsLength}
 use Rattle.kinds.specs.declared.Kind.{Kind as BookKind}
-use Rattle.kinds.specs.declared.Kind.the-variants.{Tag10}
+use Rattle.kinds.specs.declared.Kind.the-variants.{Tag10, Tag14}
 use Rattle.kinds.specs.Kind.{kindOf}
 use Rattle.kinds.specs.Lengths.{headerBytes}
 use Rattle.kinds.proofs.Formed.{formed}
@@ -45,9 +46,10 @@ use Rattle.parser.specs.Frame.{
   frameOf,
   beginsClose,
   frameAt,
+  ciphertextLength,
   Readable,
 }
-use Rattle.parser.proofs.Fields.{bytes-after, value-at, after-at, length-at, field-at, length-after}
+use Rattle.fields.proofs.Values.{bytes-after, value-at, after-at, length-at, field-at, length-after}
 
 -- a unit's fields as they are written
 abbrev pub unitFrame : Kind → ℕ → List ℕ → ℕ → List ℕ → List ℕ → List ℕ
@@ -130,7 +132,7 @@ module _ (kind : Kind) (s : List ℕ) (long : 3 + kind .numberBytes ≤ length s
   number-long : length (take (kind .numberBytes) (drop 3 s)) ≡ kind .numberBytes
   number-long = length-take-le (kind .numberBytes) (drop 3 s) (rw length-drop (omega arith))
 
-  number-fits : frameNumber kind s < 256 ^ kind .numberBytes
+  pub number-fits : frameNumber kind s < 256 ^ kind .numberBytes
   unfolding frameNumber
   number-fits =
       let v = take (kind .numberBytes) (drop 3 s) in
@@ -258,6 +260,29 @@ module _ (kind : Kind) (n : ℕ) (s : List ℕ) where
       by : (v : Bool) → beginsClose kind s ≡ v → closeTests kind n s ≡ Done
       by true q = of (closeTests kind n s) (sym (frame-close q) ∙ e)
       by false q = absurd (other (unitTests kind n s) (fieldLength (afterHeader kind s)) (sym (frame-unit q) ∙ e))
+
+-- a frame's ciphertext has the length of the unit's there: what begins as a close is no unit
+module _ (kind : Kind) (wf : WellFormed kind) (n : ℕ) (s : List ℕ) where
+  no-unit : beginsClose kind s ≡ true → unitTests kind n s ≡ Refused FieldMalformed
+  unfolding beginsClose unitTests hasField
+  no-unit e =
+      let tag = eqb-true (getD s 0 0) (kind .closeTag) e in
+      rw (ne-eqb (getD s 0 0) (kind .headerTag) (λ q. wf .tagsDiffer (sym q ∙ tag)), and-false) refl
+
+  close-length : (a : Answer) → ciphertextLength (frameOf a Close) ≡ 0
+  close-length Done = refl
+  close-length (Refused why) = refl
+
+  pub length-by-unit : ciphertextLength (frameAt kind n s) ≡ ciphertextLength (frameOf (unitTests kind n s) (Unit (fieldLength (afterHeader kind s))))
+  length-by-unit = by (beginsClose kind s) refl
+    where
+      by : (v : Bool) → beginsClose kind s ≡ v
+          → ciphertextLength (frameAt kind n s) ≡ ciphertextLength (frameOf (unitTests kind n s) (Unit (fieldLength (afterHeader kind s))))
+      by true q =
+          ap ciphertextLength (frame-close kind n s q)
+          ∙ close-length (closeTests kind n s)
+          ∙ sym (ap (λ (a : Answer). ciphertextLength (frameOf a (Unit (fieldLength (afterHeader kind s))))) (no-unit q))
+      by false q = ap ciphertextLength (frame-unit kind n s q)
 
 -- a unit, of a kind, a number, the details, a ciphertext's length, sealed bytes, and what follows
 module _ (kind : Kind) (wf : WellFormed kind) (n : ℕ) (d : List ℕ) (m : ℕ) (x rest : List ℕ) where
@@ -393,3 +418,4 @@ close-told kind n s e =
 -- every kind can be read
 pub readable : (k : BookKind) → Readable (kindOf k)
 readable Tag10 = record { wellFormed = formed Tag10; limit = refl }
+readable Tag14 = record { wellFormed = formed Tag14; limit = refl }

@@ -1,4 +1,2 @@
-pub mod Fields
-pub mod Openings
 pub mod Frames
 pub mod Read

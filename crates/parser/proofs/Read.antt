@@ -1,15 +1,12 @@
--- What the code reads: answers of tests, what follows a field, and the values of a unit's header.
+-- What the code reads: the number of a unit's header or of a close, and the codes of a header.
 use mathlib.Core.Path.{_≡_, sym, ap, _∙_}
-use mathlib.Core.Bool.{Bool, true, false, not}
 use mathlib.Core.List.{List, [], _∷_}
 use Prim.Native.Nat.{ℕ, _+_, _-_, _≤_}
 use native.Mathlib.Omega.{arith}
-use borrow.Author.Tests.{not-true, not-false}
 use lib.ListN.{length, getD, take, drop, length-take, length-drop}
 use lib.Seq.{length-take-le, take-all, take-take, take-add, drop-at, drop-drop}
 use Rattle.bits.specs.Bytes.{numberOf}
 use Rattle.bits.proofs.Lists.{part-at}
-use Rattle.fields.specs.Field.{afterField}
 use Rattle.fields.specs.Kind.{Kind}
 use Rattle.fields.specs.Unit.{detailsLength}
 use Rattle.kinds.specs.declared.Kind.{Kind as BookKind}
@@ -17,19 +14,6 @@ use Rattle.kinds.specs.Kind.{kindOf}
 use Rattle.kinds.specs.Lengths.{headerLength, closeHeaderLength, codesAt}
 use Rattle.kinds.proofs.Formed.{two-letters}
 use Rattle.parser.specs.Frame.{frameNumber, frameDetails, frameFrom, frameTo}
-
--- the code has a test's answer r, and asks whether it is false
-module _ {r t : Bool} (e : r ≡ t) where
-  pub found : not r ≡ false → t ≡ true
-  found h = sym e ∙ not-false r h
-
-  pub missed : not r ≡ true → t ≡ false
-  missed h = sym e ∙ not-true r h
-
--- the part of a string that follows a field
-pub after-is : (n : ℕ) (s : List ℕ) → take (length s - (3 + n)) (drop (3 + n) s) ≡ afterField n s
-unfolding afterField
-after-is n s = take-all (length s - (3 + n)) (drop (3 + n) s) (rw length-drop (omega arith))
 
 -- the number in a header or a close, of its bytes
 pub number-is : (kind : Kind) (s : List ℕ) (end : ℕ) → end ≡ closeHeaderLength kind → kind .numberBytes ≤ 4

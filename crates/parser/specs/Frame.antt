@@ -19,9 +19,10 @@ use Rattle.kinds.specs.Lengths.{headerBytes}
 use Rattle.parser.specs.declared.frame.Frame.{Frame}
 use Rattle.parser.specs.declared.frame.Frame.the-variants.{Unit, Close, Refused as FrameRefused}
 
--- "65,535 units already: 13", in every book that is read; how many a book of a kind can have is the kind's own limit
+-- "65,535 units already: 13", which "moves to the new limit, also for old books where it cannot occur": 16,777,215, in every book that is
+-- read. How many a book of a kind can have is the kind's own limit
 abbrev pub mostUnits : ℕ
-mostUnits = 65535
+mostUnits = 16777215
 
 -- "11 (ciphertext of 3 to 8,194 bytes)"
 abbrev pub ciphertextAllowed : ℕ → Bool
@@ -95,6 +96,12 @@ frameAt kind n s =
     cond (beginsClose kind s)
     (frameOf (closeTests kind n s) Close)
     (frameOf (unitTests kind n s) (Unit (fieldLength (afterHeader kind s))))
+
+-- how many bytes the ciphertext of a unit has, of anything else 0
+abbrev pub ciphertextLength : Frame → ℕ
+ciphertextLength (Unit m) = m
+ciphertextLength Close = 0
+ciphertextLength (FrameRefused why) = 0
 
 -- a kind that can be read: its limit is the reader's or the largest number that it has room for, whichever is smaller
 pub record Readable (kind : Kind) : Type 0 where

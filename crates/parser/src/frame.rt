@@ -11,7 +11,7 @@ ghost use Rattle.fields.specs.Field.{fieldLength};
 ghost use Rattle.kinds.specs.Kind.{kindOf};
 ghost use Rattle.kinds.specs.Lengths.{headerLength, closeHeaderLength};
 ghost use Rattle.fields.specs.Languages.{pairAllowed};
-ghost use Rattle.parser.specs.Frame.{frameNumber, frameFrom, frameTo, afterHeader, hasSealed, unitTests, closeTests, frameOf, frameAt};
+ghost use Rattle.parser.specs.Frame.{frameNumber, frameFrom, frameTo, afterHeader, hasSealed, unitTests, closeTests, frameOf, frameAt, ciphertextLength};
 
 // A unit whose ciphertext has so many bytes, a close, or the refusal.
 pub enum Frame {
@@ -27,6 +27,16 @@ fn number_at(kind: Kind, s: &[u8]) -> u64
 {
     let end = kind.close_header_len();
     fields::number::of(&s[3..end])
+}
+
+// The same where four bytes stand from there on, as in a whole header of any kind: a walk then takes the same time for each.
+fn header_number(kind: Kind, s: &[u8]) -> u64
+    requires { ⌜ 7 ≤ length (now s) ⌝ }
+    ensures { λ r. ⌜ r ≡ frameNumber (kindOf kind) (now (s .entry)) ⌝ }
+{
+    let four = fields::number::four(s[3], s[4], s[5], s[6]);
+    let two = fields::field::pair(s[3], s[4]) as u64;
+    if kind.number_bytes() == 4 { four } else { two }
 }
 
 // The codes of the two languages of a unit.
@@ -106,7 +116,7 @@ fn unit_at(kind: Kind, n: u64, s: &[u8]) -> Frame
     if !fields::field::has(kind.header_tag(), kind.header_bytes(), s) {
         return Frame::Refused(Refusal::FieldMalformed);
     }
-    if 65535 <= n {
+    if 16777215 <= n {
         return Frame::Refused(Refusal::TooManyUnits);
     }
     if number_at(kind, s) != n {
@@ -119,11 +129,36 @@ fn unit_at(kind: Kind, n: u64, s: &[u8]) -> Frame
     sealed_at(&s[end..])
 }
 
+// How many bytes the ciphertext of the unit at the start of s has, where the running number is n; 0 where anything else stands there. It is for
+// the walk, which asks for nothing more, and is proved to agree with `at`.
+pub fn ciphertext_len(kind: Kind, n: u64, s: &[u8]) -> usize
+    ensures { λ r. ⌜ r ≡ ciphertextLength (frameAt (kindOf kind) n (now (s .entry))) ⌝ }
+{
+    if !fields::field::has(kind.header_tag(), kind.header_bytes(), s) {
+        return 0;
+    }
+    if 16777215 <= n {
+        return 0;
+    }
+    if header_number(kind, s) != n {
+        return 0;
+    }
+    if !is_pair(kind, s) {
+        return 0;
+    }
+    let end = kind.header_len();
+    match sealed_at(&s[end..]) {
+        Frame::Unit(m) => m,
+        Frame::Close => 0,
+        Frame::Refused(why) => 0,
+    }
+}
+
 // The frame at the start of s, where the running number is n. Refusals: of a unit 14, 13, 15, 11, 14; of a close 14, 15.
 pub fn at(kind: Kind, n: u64, s: &[u8]) -> Frame
     ensures { λ r. ⌜ r ≡ frameAt (kindOf kind) n (now (s .entry)) ⌝ }
 {
-    if crate::opening::byte_at(s, 0) == kind.close_tag() {
+    if opening_fields::byte_at(s, 0) == kind.close_tag() {
         return close_at(kind, n, s);
     }
     unit_at(kind, n, s)

@@ -1,3 +1,2 @@
-// Reading a book's fields in their order: the opening fields, and what stands at a place behind them.
+// What stands at a place of a book, behind its opening fields.
 pub mod frame;
-pub mod opening;

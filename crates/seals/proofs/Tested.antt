@@ -8,8 +8,8 @@ use lib.ListN.{length}
 use Rattle.suites.specs.declared.refusal.Answer.the-variants.{Done}
 use Rattle.suites.specs.declared.refusal.Refusal.the-variants.{KeyLength}
 use Rattle.limits.proofs.Passed.{unless-passed}
-use Rattle.parser.specs.Opening.{openingBytes, openingTests, checkTests}
-use Rattle.parser.proofs.Openings.{opening-passed, front-long, front-listed}
+use Rattle.opening_fields.specs.Opening.{openingBytes, openingTests, checkTests}
+use Rattle.opening_fields.proofs.Openings.{opening-passed, front-long, front-listed}
 use Rattle.seals.specs.Parts.{Under}
 
 pub tested-under : (key s : List ℕ) → checkTests (length key) s ≡ Done → (16 ≤ length s) × Under key (openingBytes s)

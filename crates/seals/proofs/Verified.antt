@@ -33,7 +33,7 @@ use Rattle.format.specs.Sealings.{nonceOf}
 use Rattle.fields.specs.Unit.{sourceLength, textInRange}
 use Rattle.format.proofs.Lengths.{length-nonceOf}
 use Rattle.parser.specs.Frame.{afterHeader, frameSealed, afterUnit, closeSealed, afterClose}
-use Rattle.parser.specs.Opening.{openingNumber, openingSuite}
+use Rattle.opening_fields.specs.Opening.{openingNumber, openingSuite}
 use Rattle.parser.proofs.Frames.{UnitTold, CloseTold}
 use Rattle.seals.specs.Parts.{Under, PartsOf}
 use Rattle.seals.specs.declared.Parts.{Parts}

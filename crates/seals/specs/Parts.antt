@@ -5,7 +5,7 @@ use mathlib.Core.List.{List, _++_}
 use Prim.Native.Nat.{ℕ, _+_, _-_, _≤_}
 use lib.ListN.{length, take, drop}
 use Rattle.suites.specs.Suite.{listed}
-use Rattle.parser.specs.Opening.{openingSuite}
+use Rattle.opening_fields.specs.Opening.{openingSuite}
 use Rattle.seals.specs.declared.Parts.{Parts}
 
 -- a key of 16 bytes, and the bytes o of opening fields that were tested

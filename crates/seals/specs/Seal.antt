@@ -15,10 +15,10 @@ use Rattle.fields.specs.Unit.{sourceLength, textInRange}
 use Rattle.kinds.specs.Lengths.{headerLength, closeHeaderLength}
 use Rattle.format.specs.Sealings.{nonceOf}
 use Rattle.parser.specs.Frame.{frameSealed, closeSealed, afterClose}
-use Rattle.parser.specs.Opening.{openingNumber, openingSuite}
+use Rattle.opening_fields.specs.Opening.{openingNumber, openingSuite}
 
--- "The header sealed along is fields 01, 02 and 10 (25 bytes) or 20 (21 bytes)": with the unit there, and with the close, each as its bytes
--- stand in the book. That they are those that the writer seals along is a law (unit-along, close-along).
+-- "The header sealed along is fields 01, 02 and 10 (25 bytes) or 20 (21 bytes)", with the kind's tags and widths: with the unit there, and with
+-- the close, each as its bytes stand in the book. That they are those that the writer seals along is a law (unit-along, close-along).
 unfoldable pub unitAlong : Kind → List ℕ → List ℕ → List ℕ
 unitAlong kind o s = o ++ take (headerLength kind) s
 

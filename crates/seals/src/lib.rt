@@ -13,7 +13,7 @@ ghost use Rattle.format.specs.Sealings.{nonceOf};
 ghost use Rattle.kinds.specs.Kind.{kindOf};
 ghost use Rattle.verifying.specs.Verify.{verifyAnswer};
 ghost use Rattle.parser.specs.Frame.{frameSealed, closeSealed, frameAt};
-ghost use Rattle.parser.specs.Opening.{openingNumber, openingSuite};
+ghost use Rattle.opening_fields.specs.Opening.{openingNumber, openingSuite};
 ghost use Rattle.seals.specs.Parts.{Under, PartsOf, Placed};
 ghost use Rattle.seals.specs.Seal.{unitAlong, closeAlong, unitSealTests, closeSealTests};
 
@@ -49,7 +49,7 @@ fn parts_at(front: &[u8], n: u64, h: usize, start: usize, end: usize, at: usize,
         (take (end - start) (drop start (now (s .entry))) ++ take 16 (drop at (now (s .entry))))
         (now (s .entry)) r ⌝ }
 {
-    let nonce = format::layout::nonce(parser::opening::number(front), n);
+    let nonce = format::layout::nonce(opening_fields::number(front), n);
     let mut along = [0u8; 48];
     format::bytes::join(front, &s[..h], &mut along);
     let tag = blockwise::block_at(s, at);
@@ -102,7 +102,7 @@ fn verify(key: &[u8], front: &[u8], p: Parts, s: &[u8]) -> VerifyAnswer
         (now (key .entry)) (p .nonce) (take (p .len) (p .along))
         (take (p .end - p .start) (drop (p .start) (now (s .entry))) ++ p .tag) ⌝ }
 {
-    let suite = parser::opening::suite(front);
+    let suite = opening_fields::suite(front);
     let nonce = p.nonce;
     let along = p.along;
     let len = p.len;

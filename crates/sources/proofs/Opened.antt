@@ -22,9 +22,9 @@ use Rattle.opening.proofs.Opened.{opened-is}
 use Rattle.sealing.specs.Passes.{Passable, textOf}
 use Rattle.parser.specs.declared.frame.Frame.the-variants.{Unit}
 use Rattle.parser.specs.Frame.{frameAt, frameSealed, afterHeader}
-use Rattle.parser.specs.Opening.{openingNumber, openingSuite}
+use Rattle.opening_fields.specs.Opening.{openingNumber, openingSuite}
 use Rattle.parser.proofs.Frames.{UnitTold}
-use Rattle.parser.proofs.Openings.{drop-take}
+use Rattle.opening_fields.proofs.Openings.{drop-take}
 use Rattle.seals.specs.Parts.{Under}
 use Rattle.seals.specs.Seal.{unitAlong, unitOpened, unitAgrees, unitSealTests, closeSealTests}
 use Rattle.seals.proofs.Verified.{unit-opened-long}

@@ -77,8 +77,8 @@ pub fn source(
         (unitOpened (kindOf kind) (now (key .entry)) (now (front .entry)) n m (now (s .entry)))
         (now (work .entry)) (now (work .exit)) r ⌝ }
 {
-    let suite = parser::opening::suite(front);
-    let nonce = format::layout::nonce(parser::opening::number(front), n);
+    let suite = opening_fields::suite(front);
+    let nonce = format::layout::nonce(opening_fields::number(front), n);
     let k = blockwise::block_at(key, 0);
     let start = kind.ciphertext_at();
     let end = start + m;

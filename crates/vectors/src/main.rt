@@ -1,6 +1,7 @@
 // Runs the cases that another implementation made and writes what comes out. The file `stdout` beside this folder is made from the
 // same cases by tests/expected.
 use checker::check::CheckAnswer;
+use fetch::unit::FetchAnswer;
 use opening::open::OpenAnswer;
 use page::PageAnswer;
 use sealing::seal::SealAnswer;
@@ -17,6 +18,7 @@ enum Kind {
     Seal,
     Open,
     Check,
+    Fetch,
     Page,
 }
 
@@ -229,7 +231,7 @@ fn run_check(s: &[u8], at: usize)
         × (length (now s) ≤ 262144) ⌝ }
 {
     let mut key = [0u8; 32];
-    let mut book = io::buffer();
+    let mut book = text_room();
     let k = decode(s, at, &mut key);
     let at_book = behind(s, at, b' ');
     let n = decode(s, at_book, &mut book);
@@ -265,6 +267,69 @@ fn number_at(s: &[u8], at: usize, most: usize) -> usize
         i += 1;
     }
     n
+}
+
+// The number that decimal digits say, or the largest of 64 bits.
+fn long_number_at(s: &[u8], at: usize) -> u64
+    requires { ⌜ at ≤ 262144 ⌝ }
+{
+    let mut n: u64 = 0;
+    let mut i: usize = 0;
+    while i < 20 {
+        let c = get(s, at + i);
+        if c < 48 {
+            return n;
+        }
+        if 1844674407370955160 < n {
+            return 18446744073709551615;
+        }
+        n = 10 * n + (digit(c) as u64);
+        i += 1;
+    }
+    n
+}
+
+// Source and target of unit k, fetched into a buffer.
+fn write_fetched(key: &[u8], book: &[u8], k: u64, out: &mut [u8]) {
+    match fetch::unit::fetch(key, book, k, out) {
+        FetchAnswer::Fetched(s, t) => {
+            let n = out.len();
+            write_bytes(out, s);
+            report::text(b":");
+            if s <= n {
+                write_bytes(&out[s..], t);
+            }
+        }
+        FetchAnswer::Refused(why) => report::refusal(why),
+    }
+}
+
+// Where the ciphertext of unit k stands in a book, and its length.
+fn write_part(book: &[u8], k: u64) {
+    let part = walk::ciphertext::place(book, k);
+    report::text(b" ");
+    report::number(part.at as u64);
+    report::text(b" ");
+    report::number(part.len as u64);
+}
+
+// Key, book, a unit's number and how many bytes the output has: source and target, and the ciphertext part.
+fn run_fetch(s: &[u8], at: usize)
+    requires { ⌜ (at ≤ length (now s))
+        × (length (now s) ≤ 262144) ⌝ }
+{
+    let mut key = [0u8; 32];
+    let mut book = io::buffer();
+    let mut out = text_room();
+    let k = decode(s, at, &mut key);
+    let at_book = behind(s, at, b' ');
+    let n = decode(s, at_book, &mut book);
+    let at_number = behind(s, at_book, b' ');
+    let number = long_number_at(s, at_number);
+    let at_room = behind(s, at_number, b' ');
+    let room = number_at(s, at_room, 16384);
+    write_fetched(&key[..k], &book[..n], number, &mut out[..room]);
+    write_part(&book[..n], number);
 }
 
 // The page, made in a buffer.
@@ -317,6 +382,7 @@ fn run_case(kind: Kind, s: &[u8], at: usize)
         Kind::Seal => run_tae(true, suite_at(s, at), s, next),
         Kind::Open => run_tae(false, suite_at(s, at), s, next),
         Kind::Check => run_check(s, at),
+        Kind::Fetch => run_fetch(s, at),
         Kind::Page => run_page(s, at),
     }
     report::text(b"\n");
@@ -353,5 +419,7 @@ fn main() {
     run_file(Kind::Seal, b"seal.txt");
     run_file(Kind::Open, b"open.txt");
     run_file(Kind::Check, b"book.txt");
+    run_file(Kind::Check, b"books.txt");
+    run_file(Kind::Fetch, b"fetch.txt");
     run_file(Kind::Page, b"page.txt");
 }

@@ -2,6 +2,7 @@
 use mathlib.Core.Path.{_≡_, refl, sym, ap, _∙_}
 use mathlib.Core.Bool.{Bool, true, false}
 use mathlib.Core.List.{List}
+use mathlib.Core.Logic.{_≢_}
 use Prim.Native.Nat.{ℕ, zero, suc, _+_, _-_, _≤_, _<_, min}
 use native.Mathlib.Nat.{zero-add}
 use native.Mathlib.Omega.{arith}
@@ -16,10 +17,10 @@ use Rattle.kinds.specs.Kind.{kindOf, bookKind}
 use Rattle.kinds.specs.Lengths.{frameLength}
 use Rattle.parser.specs.declared.frame.Frame.{Frame}
 use Rattle.parser.specs.declared.frame.Frame.the-variants.{Unit, Close, Refused as FrameRefused}
-use Rattle.parser.specs.Frame.{frameAt}
-use Rattle.parser.specs.Opening.{afterOpening, openingTests}
+use Rattle.parser.specs.Frame.{frameAt, ciphertextLength}
+use Rattle.opening_fields.specs.Opening.{afterOpening, openingTests}
 use Rattle.parser.proofs.Frames.{unit-told}
-use Rattle.parser.proofs.Openings.{opening-passed}
+use Rattle.opening_fields.proofs.Openings.{opening-passed}
 use Rattle.walk.specs.declared.Place.{Place}
 use Rattle.walk.specs.Walk.{nextPlace, pastUnit, walkOn, firstPlace, walkTo}
 use Rattle.walk.specs.Clear.{clearOf, clearUnless, placedClearOf, unitClearOf, unitClear}
@@ -34,6 +35,21 @@ drop-least at s = by (leb at (length s)) refl
     by false e =
         let past = leb-false at (length s) e in
         drop-of-length-le s {i = min at (length s)} (omega arith) ∙ sym (drop-of-length-le s {i = at} (omega arith))
+
+-- a frame with a ciphertext is a unit, and one without stops the walk
+pub unit-of : (f : Frame) (m : ℕ) → m ≡ ciphertextLength f → m ≢ 0 → f ≡ Unit m
+unit-of (Unit k) m e h = ap Unit (sym e)
+unit-of Close m e h = absurd (h e)
+unit-of (FrameRefused why) m e h = absurd (h e)
+
+pub stops : (kind : Kind) (n : ℕ) (s : List ℕ) (past : ℕ → Place) (here : Place) → ciphertextLength (frameAt kind n s) ≡ 0
+    → pastUnit (frameAt kind n s) past here ≡ here
+stops kind n s past here e = by (frameAt kind n s) refl e
+  where
+    by : (f : Frame) → frameAt kind n s ≡ f → ciphertextLength f ≡ 0 → pastUnit f past here ≡ here
+    by (Unit m) q z = let least = unit-told kind n m s q .least in absurd (omega arith)
+    by Close q z = refl
+    by (FrameRefused why) q z = refl
 
 module _ (kind : Kind) (s : List ℕ) where
   -- by the frame at the place

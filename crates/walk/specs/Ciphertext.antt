@@ -13,7 +13,7 @@ use Rattle.parser.specs.declared.frame.Frame.the-variants.{Unit, Close, Refused
 use Rattle.kinds.specs.Kind.{kindOf, bookKind}
 use Rattle.kinds.specs.Lengths.{ciphertextAt}
 use Rattle.parser.specs.Frame.{frameAt}
-use Rattle.parser.specs.Opening.{afterOpening, openingTests}
+use Rattle.opening_fields.specs.Opening.{afterOpening, openingTests}
 use Rattle.walk.specs.declared.Place.{Place}
 use Rattle.walk.specs.declared.ciphertext.Part.{Part}
 use Rattle.walk.specs.Walk.{walkTo}

@@ -12,7 +12,7 @@ use Rattle.kinds.specs.Lengths.{frameLength}
 use Rattle.parser.specs.declared.frame.Frame.{Frame}
 use Rattle.parser.specs.declared.frame.Frame.the-variants.{Unit, Close, Refused as FrameRefused}
 use Rattle.parser.specs.Frame.{frameFrom, frameTo, frameAt}
-use Rattle.parser.specs.Opening.{afterOpening, openingTests}
+use Rattle.opening_fields.specs.Opening.{afterOpening, openingTests}
 use Rattle.walk.specs.declared.clear.Code.{Code}
 use Rattle.walk.specs.declared.clear.Clear.{Clear}
 use Rattle.walk.specs.Ciphertext.{emptyPart, partAt}

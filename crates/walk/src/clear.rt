@@ -109,7 +109,7 @@ fn frame_clear(kind: Kind, n: u64, at: usize, s: &[u8]) -> Clear
 pub fn placed(book: &[u8], n: u64, at: usize) -> Clear
     ensures { λ r. ⌜ r ≡ placedClear n at (now (book .entry)) ⌝ }
 {
-    let tested = parser::opening::tests(book);
+    let tested = opening_fields::tests(book);
     match tested {
         Answer::Refused(why) => none(why),
         Answer::Done => {
@@ -124,7 +124,7 @@ pub fn placed(book: &[u8], n: u64, at: usize) -> Clear
 pub fn unit(book: &[u8], k: u64) -> Clear
     ensures { λ r. ⌜ r ≡ unitClear k (now (book .entry)) ⌝ }
 {
-    let tested = parser::opening::tests(book);
+    let tested = opening_fields::tests(book);
     match tested {
         Answer::Refused(why) => none(why),
         Answer::Done => {

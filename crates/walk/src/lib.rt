@@ -3,7 +3,6 @@ pub mod ciphertext;
 pub mod clear;
 
 use kinds::Kind;
-use parser::frame::Frame;
 ghost use mathlib.Core.Path.{_≡_};
 ghost use Rattle.kinds.specs.Kind.{kindOf};
 ghost use Rattle.walk.specs.Walk.{walkTo};
@@ -36,20 +35,13 @@ pub fn to(kind: Kind, k: u64, s: &[u8]) -> Place
     let mut ahead: u64 = 0;
     while (number < k) & (ahead == 0) {
         let rest = &s[at..];
-        let frame = parser::frame::at(kind, number, rest);
-        match frame {
-            Frame::Refused(why) => {
-                return Place { number, at };
-            }
-            Frame::Close => {
-                return Place { number, at };
-            }
-            Frame::Unit(m) => {
-                number += 1;
-                at += kind.unit_len(m);
-                ahead = read_ahead(rest);
-            }
+        let m = parser::frame::ciphertext_len(kind, number, rest);
+        if m == 0 {
+            return Place { number, at };
         }
+        number += 1;
+        at += kind.unit_len(m);
+        ahead = read_ahead(rest);
     }
     Place { number, at }
 }

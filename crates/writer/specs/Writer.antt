@@ -65,7 +65,8 @@ startWriter suite key number buf = byAnswer (startOutcome suite (length key) (le
 unfoldable pub startBuffer : Suite → List ℕ → ℕ → List ℕ → List ℕ
 startBuffer suite key number buf = byAnswer (startOutcome suite (length key) (length buf)) (putAt 0 (openingFields suite number) buf) buf
 
--- "writer with unlisted suite, place under 16 or past the buffer, count over 65,535, or call total over 1,024 × (count + 1): 9"
+-- "writer with unlisted suite, place under 16 or past the buffer, count over 65,535, or call total over 1,024 × (count + 1): 9"; the limit of
+-- the count is the kind's
 abbrev pub valid : Kind → Writer → ℕ → Bool
 valid kind w room =
     listed (w .suite .cipher) (w .suite .steps)
@@ -79,7 +80,7 @@ writerTests kind w room rest =
     rest)
 
 -- "Add: 9 to 13, 7", of a unit with a source of s bytes and a target of t: "language pair not allowed: 11", "s or t out of range: 12",
--- "65,535 units already: 13", "output too short for the result: 7"
+-- "65,535 units already: 13", which is the kind's limit, "output too short for the result: 7"
 unfoldable pub addTests : Kind → Writer → List ℕ → List ℕ → ℕ → ℕ → ℕ → Answer
 addTests kind w from to s t room =
     writerTests kind w room

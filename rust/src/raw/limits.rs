@@ -37,8 +37,8 @@ pub const SEGMENT_MAX: usize = 4_096;
 /// How many bytes source and target of a unit have together at most: always enough output for a fetch.
 pub const UNIT_MAX: usize = 2 * SEGMENT_MAX;
 
-/// How many units a book has at most.
-pub const UNITS_MAX: u64 = 65_535;
+/// How many units a book has at most. A book of a version before 0.3 has at most 65,535.
+pub const UNITS_MAX: u64 = 16_777_215;
 
 /// How many bytes of a language code [`add`](super::add) reads.
 pub const CODE_LEN: usize = 2;
@@ -55,16 +55,17 @@ pub const ROW_LEN: usize = 12;
 /// What a score is at most: that of a segment and itself.
 pub const SCORE_MAX: u32 = 1_000;
 
-/// How many bytes of a book the close takes.
-pub const CLOSE_ROOM: usize = 24;
+/// How many bytes of a book the close takes, as it is written; two less in a book of a version before 0.3.
+pub const CLOSE_ROOM: usize = 26;
 
-/// How many bytes of a book a unit takes whose source and target have so many.
+/// How many bytes of a book a unit takes whose source and target have so many, as it is written; two less in a book of
+/// a version before 0.3.
 pub const fn unit_room(source: usize, target: usize) -> usize {
-    33usize.saturating_add(source).saturating_add(target)
+    35usize.saturating_add(source).saturating_add(target)
 }
 
-/// How many bytes a book takes that has so many units, with so many bytes in their sources and targets
-/// together.
+/// How many bytes a book takes, as it is written, that has so many units, with so many bytes in their sources and
+/// targets together.
 pub const fn book_room(units: usize, segments: usize) -> usize {
     let around = units.saturating_mul(unit_room(0, 0));
     (FIRST_UNIT + CLOSE_ROOM)

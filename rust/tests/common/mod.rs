@@ -1,10 +1,10 @@
-//! Books for the tests. What they hold is kept in the types of the second implementation, which lays
-//! nothing out here.
+//! Books for the tests. What they hold is kept in the types of the second implementation, which lays out those
+//! of the older kind, and no others.
 
 // Each test file uses a part of this.
 #![allow(dead_code)]
 
-use reference::book as second;
+use reference::book::{self as second, Kind};
 use reference::random::Random;
 use sealed_book::{Refusal, Suite, Unit, Writer};
 
@@ -51,8 +51,20 @@ pub fn add(writer: &mut Writer, unit: &second::Unit) -> Result<u64, Refusal> {
     writer.add(&from, &to, &unit.source, &unit.target)
 }
 
-/// The book as the writer leaves it.
+/// The book and one of the older kind with the same units.
+pub fn of_both_kinds(book: &second::Book) -> [second::Book; 2] {
+    let older = second::Book {
+        kind: Kind::Tag10,
+        ..book.clone()
+    };
+    [book.clone(), older]
+}
+
+/// The book as the writer leaves it, or as the earlier writer left it, if it is of the older kind.
 pub fn written(book: &second::Book) -> Vec<u8> {
+    if book.kind != Kind::NEWEST {
+        return book.laid_out().0;
+    }
     let mut writer = started(book);
     for (k, unit) in book.units.iter().enumerate() {
         assert_eq!(add(&mut writer, unit), Ok(k as u64));

@@ -1,6 +1,10 @@
 //! A safe wrapper over bench/baseline.c. The functions on blocks say whether the suite is listed;
 //! sealing, opening, the writer, the checker, the fetcher and the page return a refusal's number.
 
+use std::ops::Range;
+
+use reference::book::Kind;
+
 extern "C" {
     fn baseline_encipher(
         cipher: u8,
@@ -89,7 +93,21 @@ extern "C" {
         target_len: usize,
     ) -> u32;
 
+    fn baseline_add_old(
+        writer: *mut Writer,
+        buffer: *mut u8,
+        len: usize,
+        from: *const u8,
+        to: *const u8,
+        source: *const u8,
+        source_len: usize,
+        target: *const u8,
+        target_len: usize,
+    ) -> u32;
+
     fn baseline_close(writer: *mut Writer, buffer: *mut u8, len: usize) -> u32;
+
+    fn baseline_close_old(writer: *mut Writer, buffer: *mut u8, len: usize) -> u32;
 
     fn baseline_check(
         key: *const u8,
@@ -99,6 +117,14 @@ extern "C" {
         units: *mut u64,
         calls: *mut u64,
     ) -> u32;
+
+    fn baseline_ciphertext(
+        book: *const u8,
+        len: usize,
+        k: u64,
+        at: *mut u64,
+        ciphertext_len: *mut u64,
+    );
 
     fn baseline_fetch(
         key: *const u8,
@@ -346,10 +372,34 @@ impl Writer {
         source: &[u8],
         target: &[u8],
     ) -> Result<(), u32> {
+        self.add_of(Kind::NEWEST, buffer, from, to, source, target)
+    }
+
+    /// Closes the book at the place.
+    #[inline]
+    pub fn close(&mut self, buffer: &mut [u8]) -> Result<(), u32> {
+        self.close_of(Kind::NEWEST, buffer)
+    }
+
+    /// Adds a unit as the writer of this kind.
+    #[inline]
+    pub fn add_of(
+        &mut self,
+        kind: Kind,
+        buffer: &mut [u8],
+        from: &[u8; 2],
+        to: &[u8; 2],
+        source: &[u8],
+        target: &[u8],
+    ) -> Result<(), u32> {
+        let add = match kind {
+            Kind::Tag10 => baseline_add_old,
+            Kind::Tag14 => baseline_add,
+        };
         // SAFETY: the codes have two bytes each, each slice is given with its length, and only the
         // writer and the buffer are written.
         let number = unsafe {
-            baseline_add(
+            add(
                 self,
                 buffer.as_mut_ptr(),
                 buffer.len(),
@@ -364,11 +414,15 @@ impl Writer {
         answer(number)
     }
 
-    /// Closes the book at the place.
+    /// Closes the book as the writer of this kind.
     #[inline]
-    pub fn close(&mut self, buffer: &mut [u8]) -> Result<(), u32> {
+    pub fn close_of(&mut self, kind: Kind, buffer: &mut [u8]) -> Result<(), u32> {
+        let close = match kind {
+            Kind::Tag10 => baseline_close_old,
+            Kind::Tag14 => baseline_close,
+        };
         // SAFETY: the buffer is given with its length, and only it and the writer are written.
-        let number = unsafe { baseline_close(self, buffer.as_mut_ptr(), buffer.len()) };
+        let number = unsafe { close(self, buffer.as_mut_ptr(), buffer.len()) };
         answer(number)
     }
 }
@@ -389,6 +443,15 @@ pub fn check(key: &[u8], book: &[u8]) -> Result<(u64, u64), u32> {
         )
     };
     answer(number).map(|()| (units, calls))
+}
+
+/// Where the ciphertext of unit `k` stands in the book, unopened; empty at its start where there is none.
+#[inline]
+pub fn ciphertext(book: &[u8], k: u64) -> Range<usize> {
+    let (mut at, mut len) = (0, 0);
+    // SAFETY: the book is given with its length, and only the two numbers are written.
+    unsafe { baseline_ciphertext(book.as_ptr(), book.len(), k, &mut at, &mut len) };
+    at as usize..(at + len) as usize
 }
 
 /// Writes source and target of unit `k` at the start of `out`, and returns their lengths.

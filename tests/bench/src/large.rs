@@ -1,8 +1,9 @@
-//! A large book, as the library has written it. Its sources are of words, its targets any bytes.
+//! A large book, as the library has written it, and an old one of the same units. Their sources are of words,
+//! their targets any bytes.
 
 use bench::baseline;
 use bench::words::sentence;
-use reference::book::Unit;
+use reference::book::{Kind, Unit};
 use reference::random::Random;
 use sealed_book::raw;
 
@@ -101,6 +102,24 @@ impl LargeBook {
             assert_eq!(answer, Ok(()));
         }
         assert_eq!(writer.close(buffer), Ok(()));
+    }
+
+    /// The book of the same units as the writer of old books left it, by the baseline in C.
+    pub fn old(&self) -> Vec<u8> {
+        let kind = Kind::Tag10;
+        let units = self.units.iter().map(|unit| unit.len(kind));
+        let mut buffer = vec![0; raw::FIRST_UNIT + units.sum::<usize>() + kind.close_len()];
+        let (cipher, steps) = self.suite;
+        let (mut writer, answer) = baseline::start(cipher, steps, &self.key, NUMBER, &mut buffer);
+        assert_eq!(answer, Ok(()));
+        for unit in &self.units {
+            let (source, target) = (&unit.source, &unit.target);
+            let answer = writer.add_of(kind, &mut buffer, &unit.from, &unit.to, source, target);
+            assert_eq!(answer, Ok(()));
+        }
+        assert_eq!(writer.close_of(kind, &mut buffer), Ok(()));
+        assert_eq!(writer.place, buffer.len() as u64);
+        buffer
     }
 }
 

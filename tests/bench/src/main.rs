@@ -3,6 +3,7 @@
 mod checking;
 mod ciphers;
 mod fetching;
+mod kinds;
 mod large;
 mod paging;
 mod scoring;
@@ -34,4 +35,6 @@ fn main() {
     walking::table(&books, &mut counter);
     println!();
     paging::table(&books, &mut counter);
+    println!();
+    kinds::table(&books[0], &mut counter);
 }

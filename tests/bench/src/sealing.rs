@@ -8,9 +8,9 @@ use bench::table::{Contestant, Line, Table, SUITES};
 use reference::random::Random;
 use sealed_book::raw;
 
-/// Lengths of the texts, of the header that is sealed along, and of the nonce.
+/// Lengths of the texts, of the header that is sealed along, that of a unit, and of the nonce.
 const TEXTS: [usize; 3] = [16, 200, 8192];
-const HEADER: usize = 25;
+const HEADER: usize = 27;
 const NONCE: usize = 12;
 
 #[derive(Clone, Copy, PartialEq)]

@@ -7,7 +7,7 @@ use bench::calls::CallList;
 use bench::cost::{Per, Rounds};
 use bench::counter::Cycles;
 use bench::table::{Contestant, Line, Table, SUITES};
-use reference::book::{field, Unit};
+use reference::book::{field, Kind, Unit};
 use reference::random::Random;
 use reference::writer::Writer;
 use sealed_book::raw;
@@ -40,12 +40,14 @@ impl Data {
 
         let (cipher, steps) = suite;
         let before = add - 1;
-        let nonce = [&NUMBER.to_be_bytes()[..], &(before as u32).to_be_bytes()].concat();
-        let number = (before as u16).to_be_bytes();
+        let number = (before as u32).to_be_bytes();
+        let nonce = [&NUMBER.to_be_bytes()[..], &number].concat();
+        let in_header = &number[4 - Kind::NEWEST.number_bytes()..];
+        let value = [in_header, &unit.from, &unit.to].concat();
         let header = [
             field(0x01, &NUMBER.to_be_bytes()),
             field(0x02, &[cipher, steps]),
-            field(0x10, &[number, unit.from, unit.to].concat()),
+            field(Kind::NEWEST.header_tag(), &value),
         ];
         let key = random.bytes();
         let calls = CallList::new(suite, key, &nonce, &header.concat(), &unit.text());

@@ -1,10 +1,10 @@
 //! The baseline's writer in C against the reference, so that what is measured is the writing of books.
 
 use bench::baseline;
-use reference::book::Book;
+use reference::book::{Book, Kind};
 use reference::cipher::SUITES;
 use reference::random::Random;
-use reference::vectors::book_vectors;
+use reference::vectors::{book_vectors, books_vectors};
 use reference::writer::{start, Writer};
 
 const SEED: u64 = 0x424F_4F4B;
@@ -23,32 +23,52 @@ fn in_c(writer: &Writer) -> baseline::Writer {
     }
 }
 
-/// The accepted books of book.txt, taken apart by the reference and written again.
+/// A book written again, in a buffer that has room for it and no more; its bytes, and the writer.
+fn written(book: &Book, len: usize) -> (Vec<u8>, baseline::Writer) {
+    let mut buffer = vec![0; len];
+    let (cipher, steps) = (book.cipher, book.steps);
+    let (mut writer, answer) = baseline::start(cipher, steps, &book.key, book.number, &mut buffer);
+    assert_eq!(answer, Ok(()));
+    for unit in &book.units {
+        let (source, target) = (&unit.source, &unit.target);
+        let answer = writer.add_of(book.kind, &mut buffer, &unit.from, &unit.to, source, target);
+        assert_eq!(answer, Ok(()));
+    }
+    assert_eq!(writer.close_of(book.kind, &mut buffer), Ok(()));
+    (buffer, writer)
+}
+
+/// Known value 8: 84 bytes as printed, 88 as the writer makes it, 7 calls.
+#[test]
+fn known_book() {
+    for (kind, len) in [(Kind::Tag10, 84), (Kind::Tag14, 88)] {
+        let book = Book::known(kind, [9; 16]);
+        let (bytes, writer) = written(&book, len);
+        assert_eq!(bytes, book.laid_out().0);
+        assert_eq!((writer.place, writer.calls), (len as u64, 7));
+    }
+}
+
+/// The accepted books of book.txt and books.txt, taken apart by the reference and written again.
 #[test]
 fn book_vectors_are_written_again() {
-    let mut books = 0;
-    for v in book_vectors() {
+    let mut books = [0; 2];
+    for v in book_vectors().into_iter().chain(books_vectors()) {
         let Ok((units, calls)) = v.answer else {
             continue;
         };
         let key = v.key[..].try_into().expect("an accepted key");
         let book = Book::taken_apart(&key, &v.book).expect("a book");
-        let mut buffer = vec![0; v.book.len()];
-        let (mut writer, answer) =
-            baseline::start(book.cipher, book.steps, &key, book.number, &mut buffer);
-        assert_eq!(answer, Ok(()), "line {}", v.line);
-        for unit in &book.units {
-            let (source, target) = (&unit.source, &unit.target);
-            let answer = writer.add(&mut buffer, &unit.from, &unit.to, source, target);
-            assert_eq!(answer, Ok(()), "line {}", v.line);
-        }
-        assert_eq!(writer.close(&mut buffer), Ok(()), "line {}", v.line);
-        assert_eq!(buffer, v.book, "line {}", v.line);
+        let (bytes, writer) = written(&book, v.book.len());
+        assert_eq!(bytes, v.book, "line {}", v.line);
         assert_eq!(writer.units, units as u64, "line {}", v.line);
         assert_eq!(writer.calls, calls as u64, "line {}", v.line);
-        books += 1;
+        books[Kind::ALL
+            .iter()
+            .take_while(|kind| **kind != book.kind)
+            .count()] += 1;
     }
-    assert_eq!(books, 8);
+    assert_eq!(books, [8 + 10, 9]);
 }
 
 /// Starts, some of them refused.
@@ -79,20 +99,24 @@ fn starts_are_those_of_the_reference() {
     }
 }
 
-/// Adds and closes of any writers, some of them refused.
+/// Adds and closes of any writers, some of them refused: of the writer, and of those of each kind.
 #[test]
 fn adds_and_closes_are_those_of_the_reference() {
     let mut random = Random::new(SEED + 1);
-    let mut answers = [0; 14];
-    for case in 0..6_000 {
+    let mut answers = [[0; 14]; 3];
+    for case in 0..9_000 {
         let name = format!("seed {:X}, case {case}", SEED + 1);
+        let kind = [None, Some(Kind::Tag10), Some(Kind::Tag14)][case % 3];
         let (cipher, steps) = match random.below(16) {
             0 => (1, 14),
             _ => random.one_of(&SUITES),
         };
-        let most = [65_533, 65_534, 65_535, 65_535, 65_536, u64::MAX];
-        let units = match random.below(4) {
-            0 => random.one_of(&most),
+        let units = match random.below(3) {
+            0 => {
+                let most = kind.unwrap_or(Kind::NEWEST).most_units() as u64;
+                let other = random.one_of(&[65_535, 65_536, 65_537, u64::MAX]);
+                random.one_of(&[most - 2, most - 1, most, most, most + 1, other])
+            }
             _ => random.below(600) as u64,
         };
         let bound = units.wrapping_add(1).wrapping_mul(1_024);
@@ -132,20 +156,28 @@ fn adds_and_closes_are_those_of_the_reference() {
         let mut buffer = random.some_bytes(len);
         let mut expected = buffer.clone();
         let mut got = in_c(&writer);
-        let (after, answer, given) = if random.below(4) == 0 {
-            let (after, answer) = writer.close(&mut expected);
-            (after, answer, got.close(&mut buffer))
-        } else {
-            let (after, answer) = writer.add(&mut expected, from, to, &source, &target);
-            let given = got.add(&mut buffer, &from, &to, &source, &target);
-            (after, answer, given)
+        let closes = random.below(4) == 0;
+        let ((after, answer), given) = match (kind, closes) {
+            (None, true) => (writer.close(&mut expected), got.close(&mut buffer)),
+            (None, false) => (
+                writer.add(&mut expected, from, to, &source, &target),
+                got.add(&mut buffer, &from, &to, &source, &target),
+            ),
+            (Some(kind), true) => (
+                writer.close_of(kind, &mut expected),
+                got.close_of(kind, &mut buffer),
+            ),
+            (Some(kind), false) => (
+                writer.add_of(kind, &mut expected, from, to, &source, &target),
+                got.add_of(kind, &mut buffer, &from, &to, &source, &target),
+            ),
         };
         assert_eq!(given, answer, "{name}");
         assert_eq!(got, in_c(&after), "{name}");
         assert_eq!(buffer, expected, "{name}");
-        answers[answer.err().unwrap_or(0) as usize] += 1;
+        answers[case % 3][answer.err().unwrap_or(0) as usize] += 1;
     }
     for number in [0, 7, 9, 10, 11, 12, 13] {
-        assert!(answers[number] > 50, "{answers:?}");
+        assert!(answers.iter().all(|of| of[number] > 50), "{answers:?}");
     }
 }

@@ -49,13 +49,13 @@ pub fn unit_at(book: &[u8], number: u64, at: usize) -> Result<Clear, u32> {
     if !frame.is_unit {
         return Err(16);
     }
-    // tag and length of field 10, the unit's number, the source's language and the target's
-    let [_, _, _, _, _, from @ .., t0, t1] = frame.head else {
-        panic!("9 bytes");
+    // at the end of the header: the source's language and the target's
+    let [.., f0, f1, t0, t1] = frame.head else {
+        panic!("9 bytes or more");
     };
     Ok(Clear {
         at,
-        from: from.to_vec(),
+        from: vec![*f0, *f1],
         to: vec![*t0, *t1],
         ciphertext: frame.ciphertext,
         next: frame.end,
@@ -75,54 +75,59 @@ pub fn unit(book: &[u8], k: u64) -> Result<Clear, u32> {
 #[cfg(test)]
 mod tests {
     use super::*;
-    use crate::book::{places, Book, CIPHERTEXT};
+    use crate::book::{places, Book, Kind};
     use crate::cipher::SUITES;
     use crate::fetch::{ciphertext, fetch};
     use crate::random::Random;
 
     const KEY: [u8; 16] = [9; 16];
 
-    /// Known value 8's book: 84 bytes, with fields at 0, 11, 16, 25, 41, 60 and 65.
+    /// Known value 8's book: 84 bytes as printed, with fields at 0, 11, 16, 25, 41, 60 and 65; 88 bytes as the
+    /// writer makes it, with fields at 0, 11, 16, 27, 43, 62 and 69.
     #[test]
     fn known_book() {
-        let (book, _) = Book::known(KEY).laid_out();
-        let expected = Info {
-            cipher: 1,
-            steps: 10,
-            number: 7,
-        };
-        for len in 0..=84 {
-            let answer = info(&book[..len]);
-            let expected = if len < 16 { Err(14) } else { Ok(expected) };
-            assert_eq!(answer, expected, "{len} bytes");
-        }
-        let expected = Clear {
-            at: 16,
-            from: b"en".to_vec(),
-            to: b"de".to_vec(),
-            ciphertext: 28..41,
-            next: 60,
-        };
-        assert_eq!(unit(&book, 0), Ok(expected.clone()));
-        for len in 0..=84 {
-            let answer = unit_at(&book[..len], 0, 16);
-            let expected = if len < 60 {
-                Err(14)
-            } else {
-                Ok(expected.clone())
+        for (kind, ciphertext, close, end) in
+            [(Kind::Tag10, 28..41, 60, 84), (Kind::Tag14, 30..43, 62, 88)]
+        {
+            let (book, _) = Book::known(kind, KEY).laid_out();
+            let expected = Info {
+                cipher: 1,
+                steps: 10,
+                number: 7,
             };
-            assert_eq!(answer, expected, "{len} bytes");
+            for len in 0..=end {
+                let answer = info(&book[..len]);
+                let expected = if len < 16 { Err(14) } else { Ok(expected) };
+                assert_eq!(answer, expected, "{len} bytes");
+            }
+            let expected = Clear {
+                at: 16,
+                from: b"en".to_vec(),
+                to: b"de".to_vec(),
+                ciphertext,
+                next: close,
+            };
+            assert_eq!(unit(&book, 0), Ok(expected.clone()));
+            for len in 0..=end {
+                let answer = unit_at(&book[..len], 0, 16);
+                let expected = if len < close {
+                    Err(14)
+                } else {
+                    Ok(expected.clone())
+                };
+                assert_eq!(answer, expected, "{len} bytes");
+            }
+            // the close: 14 of its fields, 15 of its count, 16, whatever its seal is and stands behind it
+            for k in [1, 2, 65_535, u64::MAX] {
+                assert_eq!(unit(&book, k), Err(16), "{k}");
+            }
+            assert_eq!(unit_at(&book, 1, close), Err(16));
+            assert_eq!(unit_at(&book, 2, close), Err(15));
+            assert_eq!(unit_at(&book[..end - 1], 1, close), Err(14));
+            let mut changed = [&book[..], &[0]].concat();
+            changed[end - 1] ^= 1;
+            assert_eq!(unit_at(&changed, 1, close), Err(16));
         }
-        // the close: 14 of its fields, 15 of its count, 16, whatever its seal is and stands behind it
-        for k in [1, 2, 65_535, u64::MAX] {
-            assert_eq!(unit(&book, k), Err(16), "{k}");
-        }
-        assert_eq!(unit_at(&book, 1, 60), Err(16));
-        assert_eq!(unit_at(&book, 2, 60), Err(15));
-        assert_eq!(unit_at(&book[..83], 1, 60), Err(14));
-        let mut changed = [&book[..], &[0]].concat();
-        changed[83] ^= 1;
-        assert_eq!(unit_at(&changed, 1, 60), Err(16));
     }
 
     /// A refusal is the one that fetching gives, and where fetching has opened the unit, or the close, this
@@ -131,10 +136,12 @@ mod tests {
     fn as_fetching() {
         let mut random = Random::new(18);
         let mut counts = [0; 17];
-        for suite in SUITES {
+        for (i, suite) in [SUITES, SUITES].concat().into_iter().enumerate() {
             let mut book = Book::random(&mut random, suite);
+            book.kind = Kind::ALL[i / 8];
             for _ in 0..3 {
-                book.units.push(Book::known(KEY).units[0].clone());
+                book.units
+                    .push(Book::known(book.kind, KEY).units[0].clone());
             }
             let (bytes, _) = book.laid_out();
             let places = places(&book);
@@ -142,7 +149,8 @@ mod tests {
                 let mut bytes = bytes.clone();
                 for _ in 0..random.below(3) {
                     let at = random.below(bytes.len());
-                    bytes[at] = random.one_of(&[0, 1, 0x10, 0x12, 0x20, bytes[at], b'e', 0xFF]);
+                    bytes[at] =
+                        random.one_of(&[0, 1, 0x10, 0x12, 0x14, 0x20, 0x21, bytes[at], 0xFF]);
                 }
                 let k = random.below(5);
                 let (answer, part) = (unit(&bytes, k as u64), ciphertext(&bytes, k as u64));
@@ -157,7 +165,7 @@ mod tests {
                     assert_eq!((unit.at, unit.next), (places[k], places[k + 1]));
                     assert_eq!(
                         (unit.ciphertext.start, &unit.ciphertext),
-                        (unit.at + CIPHERTEXT, &part)
+                        (unit.at + book.kind.ciphertext_at(), &part)
                     );
                 } else {
                     assert_eq!(part, 0..0);

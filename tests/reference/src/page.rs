@@ -31,7 +31,7 @@ pub fn page(key: &[u8], book: &[u8], typed: &[u8], room: usize) -> Result<Vec<u8
 #[cfg(test)]
 mod tests {
     use super::*;
-    use crate::book::{Book, Unit};
+    use crate::book::{Book, Kind, Unit};
     use crate::cipher::SUITES;
     use crate::random::Random;
 
@@ -55,15 +55,17 @@ mod tests {
     /// "A unit "valve" against a typed "valves" gives `    5   857`." "An empty typed sentence is allowed."
     #[test]
     fn known_book() {
-        let (bytes, _) = Book::known(KEY).laid_out();
-        for (typed, expected) in [
-            ("valves", "    5   857\n"),
-            ("valve", "    5  1000\n"),
-            ("", "    5     0\n"),
-            ("Ventil", "    5     0\n"),
-        ] {
-            let answer = page(&KEY, &bytes, typed.as_bytes(), 12);
-            assert_eq!(answer, Ok(expected.as_bytes().to_vec()), "{typed:?}");
+        for kind in Kind::ALL {
+            let (bytes, _) = Book::known(kind, KEY).laid_out();
+            for (typed, expected) in [
+                ("valves", "    5   857\n"),
+                ("valve", "    5  1000\n"),
+                ("", "    5     0\n"),
+                ("Ventil", "    5     0\n"),
+            ] {
+                let answer = page(&KEY, &bytes, typed.as_bytes(), 12);
+                assert_eq!(answer, Ok(expected.as_bytes().to_vec()), "{typed:?}");
+            }
         }
     }
 
@@ -85,31 +87,40 @@ mod tests {
         let expected =
             "    1     0\n    6   750\n    6  1000\n 4096     0\n   26   285\n  100     0\n";
         for suite in SUITES {
-            let book = book(&mut random, suite, &sources);
-            let (bytes, _) = book.laid_out();
-            let answer = page(&book.key, &bytes, b"ananas", 72);
-            assert_eq!(answer, Ok(expected.as_bytes().to_vec()), "suite {suite:?}");
+            let mut book = book(&mut random, suite, &sources);
+            for kind in Kind::ALL {
+                book.kind = kind;
+                let (bytes, _) = book.laid_out();
+                let answer = page(&book.key, &bytes, b"ananas", 72);
+                assert_eq!(answer, Ok(expected.as_bytes().to_vec()), "suite {suite:?}");
+            }
         }
     }
 
     /// "A book that checking refuses gives that refusal, then a short page buffer gives 7".
     #[test]
     fn refusals_in_order() {
-        let (bytes, _) = Book::known(KEY).laid_out();
-        for room in 0..30 {
-            let expected = match room {
-                0..12 => Err(7),
-                _ => Ok(b"    5   857\n".to_vec()),
-            };
-            assert_eq!(page(&KEY, &bytes, b"valves", room), expected, "{room}");
-            assert_eq!(page(&KEY[1..], &bytes, b"valves", room), Err(2), "{room}");
-            for (at, number) in [(0, 14), (14, 1), (20, 15), (21, 11), (28, 8), (83, 8)] {
-                let mut changed = bytes.clone();
-                changed[at] ^= 0x40;
-                let answer = page(&KEY, &changed, b"valves", room);
-                assert_eq!(answer, Err(number), "byte {at}, {room}");
+        for (kind, places) in [
+            (Kind::Tag10, [0, 14, 20, 21, 28, 83]),
+            (Kind::Tag14, [0, 14, 22, 23, 30, 87]),
+        ] {
+            let (bytes, _) = Book::known(kind, KEY).laid_out();
+            for room in 0..30 {
+                let expected = match room {
+                    0..12 => Err(7),
+                    _ => Ok(b"    5   857\n".to_vec()),
+                };
+                assert_eq!(page(&KEY, &bytes, b"valves", room), expected, "{room}");
+                assert_eq!(page(&KEY[1..], &bytes, b"valves", room), Err(2), "{room}");
+                for (at, number) in places.into_iter().zip([14, 1, 15, 11, 8, 8]) {
+                    let mut changed = bytes.clone();
+                    changed[at] ^= 0x40;
+                    let answer = page(&KEY, &changed, b"valves", room);
+                    assert_eq!(answer, Err(number), "byte {at}, {room}");
+                }
+                let short = &bytes[..bytes.len() - 1];
+                assert_eq!(page(&KEY, short, b"", room), Err(14), "{room}");
             }
-            assert_eq!(page(&KEY, &bytes[..83], b"", room), Err(14), "{room}");
         }
     }
 
@@ -118,10 +129,13 @@ mod tests {
     fn no_units() {
         let mut random = Random::new(20);
         for suite in SUITES {
-            let book = book(&mut random, suite, &[]);
-            let (bytes, _) = book.laid_out();
-            for room in [0, 1, 12] {
-                assert_eq!(page(&book.key, &bytes, b"valves", room), Ok(Vec::new()));
+            let mut book = book(&mut random, suite, &[]);
+            for kind in Kind::ALL {
+                book.kind = kind;
+                let (bytes, _) = book.laid_out();
+                for room in [0, 1, 12] {
+                    assert_eq!(page(&book.key, &bytes, b"valves", room), Ok(Vec::new()));
+                }
             }
         }
     }

@@ -1,5 +1,8 @@
 //! The test vectors in tests/vectors/.
 
+use std::ops::Range;
+
+use crate::fetch::Fetched;
 use crate::state::Block;
 
 /// The lines of a file that are no comments, with their numbers from 1, each cut into `n` fields.
@@ -114,7 +117,7 @@ pub fn open_vectors() -> Vec<OpenVector> {
     vectors
 }
 
-/// A line of book.txt.
+/// A line of book.txt or books.txt.
 pub struct BookVector {
     /// The line's number in the file, from 1.
     pub line: usize,
@@ -125,10 +128,19 @@ pub struct BookVector {
 }
 
 /// Every line of book.txt but the comments: key and book in hex, then `ok:`, unit count, `:` and call
-/// total, or `refused:` and a number.
+/// total, or `refused:` and a number. The books are of the scope's kind.
 pub fn book_vectors() -> Vec<BookVector> {
+    checked("book.txt", include_str!("../../vectors/book.txt"))
+}
+
+/// Every line of books.txt but the comments, of the same fields. The books are of both kinds.
+pub fn books_vectors() -> Vec<BookVector> {
+    checked("books.txt", include_str!("../../vectors/books.txt"))
+}
+
+fn checked(name: &str, file: &str) -> Vec<BookVector> {
     let mut vectors = Vec::new();
-    for (line, fields) in cases("book.txt", include_str!("../../vectors/book.txt"), 3) {
+    for (line, fields) in cases(name, file, 3) {
         let number = |text: &str| text.parse().expect(fields[2]);
         vectors.push(BookVector {
             line,
@@ -139,6 +151,55 @@ pub fn book_vectors() -> Vec<BookVector> {
                 ["refused", number] => Err(number.parse().expect(fields[2])),
                 _ => panic!("{}", fields[2]),
             },
+        });
+    }
+    vectors
+}
+
+/// A line of fetch.txt.
+pub struct FetchVector {
+    /// The line's number in the file, from 1.
+    pub line: usize,
+    pub key: Vec<u8>,
+    pub book: Vec<u8>,
+    /// Which unit is fetched.
+    pub k: u64,
+    /// How many bytes the output has.
+    pub room: usize,
+    /// The unit, or the refusal's number.
+    pub answer: Result<Fetched, u32>,
+    /// The calls of the cipher that opening the unit takes, which fetching does not report; 0 with a refusal.
+    pub calls: usize,
+    /// Where the ciphertext part stands; 0..0 for none.
+    pub ciphertext: Range<usize>,
+}
+
+/// Every line of fetch.txt but the comments: key and book in hex, the unit's number, the room, then source and
+/// target in hex and the calls with `:` between them, or `refused:` and a number; start and length of the
+/// ciphertext part.
+pub fn fetch_vectors() -> Vec<FetchVector> {
+    let mut vectors = Vec::new();
+    for (line, fields) in cases("fetch.txt", include_str!("../../vectors/fetch.txt"), 7) {
+        let number = |i: usize| fields[i].parse().expect(fields[i]);
+        let (answer, calls) = match fields[4].split(':').collect::<Vec<_>>()[..] {
+            ["refused", number] => (Err(number.parse().expect(fields[4])), 0),
+            [source, target, calls] => {
+                let (source, target) = (bytes(source), bytes(target));
+                let calls = calls.parse().expect(fields[4]);
+                (Ok(Fetched { source, target }), calls)
+            }
+            _ => panic!("{}", fields[4]),
+        };
+        let (at, len): (usize, usize) = (number(5), number(6));
+        vectors.push(FetchVector {
+            line,
+            key: bytes(fields[0]),
+            book: bytes(fields[1]),
+            k: fields[2].parse().expect(fields[2]),
+            room: number(3),
+            answer,
+            calls,
+            ciphertext: at..at + len,
         });
     }
     vectors

@@ -3,7 +3,7 @@
 //! Quoted sentences are the scope's. Refusals are given by their numbers. The bytes are put down at
 //! their places, and not by way of `book`, so that the two can be held against each other.
 
-use crate::book::{languages_allowed, lengths_allowed, MOST_UNITS};
+use crate::book::{languages_allowed, lengths_allowed, Kind};
 use crate::cipher::listed;
 use crate::sealing::seal;
 use crate::state::Block;
@@ -68,7 +68,7 @@ impl Writer {
         closed: true,
     };
 
-    /// Adds a unit. Refusals 9, 10, 11, 12, 13 and 7.
+    /// Adds a unit. Refusals 9, 10, 11, 12, 13 and 7. "The writer makes only the wide kind."
     pub fn add(
         self,
         buffer: &mut [u8],
@@ -77,8 +77,26 @@ impl Writer {
         source: &[u8],
         target: &[u8],
     ) -> (Writer, Answer) {
+        self.add_of(Kind::NEWEST, buffer, from, to, source, target)
+    }
+
+    /// Closes the book. Refusals 9, 10 and 7.
+    pub fn close(self, buffer: &mut [u8]) -> (Writer, Answer) {
+        self.close_of(Kind::NEWEST, buffer)
+    }
+
+    /// Adds a unit as the writer of this kind, with its own limit in 9 and 13.
+    pub fn add_of(
+        self,
+        kind: Kind,
+        buffer: &mut [u8],
+        from: [u8; 2],
+        to: [u8; 2],
+        source: &[u8],
+        target: &[u8],
+    ) -> (Writer, Answer) {
         let (s, t) = (source.len(), target.len());
-        let refusal = if self.invalid(buffer.len()) {
+        let refusal = if self.invalid(kind, buffer.len()) {
             9
         } else if self.closed {
             10
@@ -86,38 +104,38 @@ impl Writer {
             11
         } else if !lengths_allowed(s, t) {
             12
-        } else if self.units == MOST_UNITS as u64 {
+        } else if self.units == kind.most_units() as u64 {
             13
-        } else if self.room(buffer.len()) < 33 + s + t {
+        } else if self.room(buffer.len()) < kind.unit_len(s, t) {
             7
         } else {
-            return (self.added(buffer, from, to, source, target), Ok(()));
+            return (self.added(kind, buffer, from, to, source, target), Ok(()));
         };
         (self, Err(refusal))
     }
 
-    /// Closes the book. Refusals 9, 10 and 7.
-    pub fn close(self, buffer: &mut [u8]) -> (Writer, Answer) {
-        let refusal = if self.invalid(buffer.len()) {
+    /// Closes the book as the writer of this kind, with its own limit in 9.
+    pub fn close_of(self, kind: Kind, buffer: &mut [u8]) -> (Writer, Answer) {
+        let refusal = if self.invalid(kind, buffer.len()) {
             9
         } else if self.closed {
             10
-        } else if self.room(buffer.len()) < 24 {
+        } else if self.room(buffer.len()) < kind.close_len() {
             7
         } else {
-            return (self.closing(buffer), Ok(()));
+            return (self.closing(kind, buffer), Ok(()));
         };
         (self, Err(refusal))
     }
 
     /// "writer with unlisted suite, place under 16 or past the buffer, count over 65,535, or call
-    /// total over 1,024 × (count + 1)"
-    fn invalid(&self, buffer_len: usize) -> bool {
+    /// total over 1,024 × (count + 1)"; "Refusals 9 and 13 move to the new limit".
+    fn invalid(&self, kind: Kind, buffer_len: usize) -> bool {
         let most_calls = 1_024 * (u128::from(self.units) + 1);
         !listed(self.cipher, self.steps)
             || self.place < 16
             || self.place > buffer_len as u64
-            || self.units > MOST_UNITS as u64
+            || self.units > kind.most_units() as u64
             || u128::from(self.calls) > most_calls
     }
 
@@ -129,15 +147,20 @@ impl Writer {
     /// The writer after a unit that is not refused.
     fn added(
         mut self,
+        kind: Kind,
         buffer: &mut [u8],
         from: [u8; 2],
         to: [u8; 2],
         source: &[u8],
         target: &[u8],
     ) -> Writer {
-        let number = self.units as u16;
-        let [n1, n0] = number.to_be_bytes();
-        let head = [0x10, 0, 6, n1, n0, from[0], from[1], to[0], to[1]];
+        let number = self.units as u32;
+        let [n3, n2, n1, n0] = number.to_be_bytes();
+        let [[f0, f1], [t0, t1]] = [from, to];
+        let head = match kind {
+            Kind::Tag10 => vec![0x10, 0, 6, n1, n0, f0, f1, t0, t1],
+            Kind::Tag14 => vec![0x14, 0, 8, n3, n2, n1, n0, f0, f1, t0, t1],
+        };
 
         let s = source.len() as u16;
         let mut text = s.to_be_bytes().to_vec();
@@ -159,10 +182,13 @@ impl Writer {
     }
 
     /// The writer after a close that is not refused.
-    fn closing(mut self, buffer: &mut [u8]) -> Writer {
-        let count = self.units as u16;
-        let [n1, n0] = count.to_be_bytes();
-        let head = [0x20, 0, 2, n1, n0];
+    fn closing(mut self, kind: Kind, buffer: &mut [u8]) -> Writer {
+        let count = self.units as u32;
+        let [n3, n2, n1, n0] = count.to_be_bytes();
+        let head = match kind {
+            Kind::Tag10 => vec![0x20, 0, 2, n1, n0],
+            Kind::Tag14 => vec![0x21, 0, 4, n3, n2, n1, n0],
+        };
         let (tag, calls) = self.sealed(count, &head, &[]);
         self.put(buffer, &head);
         self.put(buffer, &[0x12, 0, 16]);
@@ -190,10 +216,10 @@ impl Writer {
 
     /// The sealed bytes and the calls of a unit's text or the close's: "under the start's suite and
     /// key with the nonce and header above".
-    fn sealed(&self, number: u16, head: &[u8], text: &[u8]) -> (Vec<u8>, usize) {
+    fn sealed(&self, number: u32, head: &[u8], text: &[u8]) -> (Vec<u8>, usize) {
         let mut nonce = [0; 12];
         nonce[..8].copy_from_slice(&self.number.to_be_bytes());
-        nonce[8..].copy_from_slice(&u32::from(number).to_be_bytes());
+        nonce[8..].copy_from_slice(&number.to_be_bytes());
         let header = [&self.opening(), head].concat();
         let len = text.len() + 16;
         let sealed = seal(
@@ -253,12 +279,17 @@ mod tests {
         writer
     }
 
-    /// Step by step, the bytes are those of the book laid out at once.
+    /// Step by step, the bytes are those of the book laid out at once, of either kind; "the writer makes only
+    /// the wide kind".
     #[test]
     fn books_are_those_laid_out_at_once() {
         let mut random = Random::new(3);
-        for suite in SUITES {
+        for (kind, suite) in Kind::ALL
+            .into_iter()
+            .flat_map(|kind| SUITES.map(|suite| (kind, suite)))
+        {
             let mut book = Book::random(&mut random, suite);
+            book.kind = kind;
             for (s, t) in [(1, 0), (5, 6), (14, 0), (4_096, 4_096), (30, 47)] {
                 book.units.push(Unit {
                     from: *b"en",
@@ -272,11 +303,19 @@ mod tests {
                 assert_eq!(answer, Ok(()));
                 for unit in &book.units {
                     let answer;
-                    (writer, answer) =
-                        writer.add(&mut buffer, unit.from, unit.to, &unit.source, &unit.target);
+                    let (source, target) = (&unit.source, &unit.target);
+                    (writer, answer) = match kind {
+                        Kind::Tag10 => {
+                            writer.add_of(kind, &mut buffer, unit.from, unit.to, source, target)
+                        }
+                        Kind::Tag14 => writer.add(&mut buffer, unit.from, unit.to, source, target),
+                    };
                     assert_eq!(answer, Ok(()));
                 }
-                let (writer, answer) = writer.close(&mut buffer);
+                let (writer, answer) = match kind {
+                    Kind::Tag10 => writer.close_of(kind, &mut buffer),
+                    Kind::Tag14 => writer.close(&mut buffer),
+                };
                 assert_eq!(answer, Ok(()));
                 let (bytes, calls) = book.laid_out();
                 let place = bytes.len();
@@ -330,44 +369,65 @@ mod tests {
             let (source, target) = (vec![1; s], vec![2; t]);
             let (next, answer) = writer.add(&mut buffer, *b"en", *b"de", &source, &target);
             assert_eq!(answer, expected, "({s}, {t})");
+            let moved = if answer.is_ok() { 35 + s + t } else { 0 };
+            assert_eq!(next.place, 16 + moved as u64);
+            let (next, answer) =
+                writer.add_of(Kind::Tag10, &mut buffer, *b"en", *b"de", &source, &target);
+            assert_eq!(answer, expected, "({s}, {t})");
             let moved = if answer.is_ok() { 33 + s + t } else { 0 };
             assert_eq!(next.place, 16 + moved as u64);
         }
     }
 
+    /// The refusals of adding and closing in their order, for each kind with its limit, and with the room of
+    /// a unit with one byte and of a close.
     #[test]
     fn the_first_refusal_is_given() {
-        let mut buffer = vec![0; 100];
-        let open = Writer {
-            units: MOST_UNITS as u64,
-            ..started(&mut buffer)
-        };
-        let closed = Writer {
-            closed: true,
-            ..open
-        };
-        let bad = Writer {
-            place: 15,
-            ..closed
-        };
-        let before = buffer.clone();
-        let mut add = |writer: Writer, to: &[u8; 2], source: &[u8]| {
-            let (next, answer) = writer.add(&mut buffer[..16], *b"en", *to, source, &[]);
-            assert_eq!(next, writer);
-            answer
-        };
-        assert_eq!(add(bad, b"en", &[]), Err(9));
-        assert_eq!(add(closed, b"en", &[]), Err(10));
-        assert_eq!(add(open, b"en", &[]), Err(11));
-        assert_eq!(add(open, b"dE", &[]), Err(11));
-        assert_eq!(add(open, b"de", &[]), Err(12));
-        assert_eq!(add(open, b"de", &[1]), Err(13));
-        assert_eq!(add(Writer { units: 9, ..open }, b"de", &[1]), Err(7));
-        assert_eq!(bad.close(&mut buffer[..16]), (bad, Err(9)));
-        assert_eq!(closed.close(&mut buffer[..16]), (closed, Err(10)));
-        assert_eq!(open.close(&mut buffer[..39]), (open, Err(7)));
-        assert_eq!(buffer, before);
-        assert_eq!(open.close(&mut buffer[..40]).1, Ok(()));
+        for (kind, most, unit, close) in [
+            (Kind::Tag10, 65_535, 34, 24),
+            (Kind::Tag14, 16_777_215, 36, 26),
+        ] {
+            let mut buffer = vec![0; 100];
+            let open = Writer {
+                units: most,
+                ..started(&mut buffer)
+            };
+            let closed = Writer {
+                closed: true,
+                ..open
+            };
+            let bad = Writer {
+                place: 15,
+                ..closed
+            };
+            let before = buffer.clone();
+            let mut add = |writer: Writer, to: &[u8; 2], source: &[u8], len: usize| {
+                let buffer = &mut buffer[..len];
+                let (next, answer) = writer.add_of(kind, buffer, *b"en", *to, source, &[]);
+                assert_eq!(next == writer, answer.is_err());
+                answer
+            };
+            assert_eq!(add(bad, b"en", &[], 16), Err(9));
+            assert_eq!(add(closed, b"en", &[], 16), Err(10));
+            assert_eq!(add(open, b"en", &[], 16), Err(11));
+            assert_eq!(add(open, b"dE", &[], 16), Err(11));
+            assert_eq!(add(open, b"de", &[], 16), Err(12));
+            assert_eq!(add(open, b"de", &[1], 16), Err(13));
+            let one_less = Writer {
+                units: most - 1,
+                ..open
+            };
+            assert_eq!(add(one_less, b"de", &[1], 16 + unit - 1), Err(7));
+            assert_eq!(bad.close_of(kind, &mut buffer[..16]), (bad, Err(9)));
+            assert_eq!(closed.close_of(kind, &mut buffer[..16]), (closed, Err(10)));
+            let short = &mut buffer[..16 + close - 1];
+            assert_eq!(open.close_of(kind, short), (open, Err(7)));
+            assert_eq!(buffer, before);
+            assert_eq!(open.close_of(kind, &mut buffer[..16 + close]).1, Ok(()));
+            let buffer = &mut buffer[..16 + unit];
+            let (next, answer) = one_less.add_of(kind, buffer, *b"en", *b"de", &[1], &[]);
+            assert_eq!((next.units, answer), (most, Ok(())));
+        }
     }
 
     /// Each number of a writer at its limits, and far over them.
@@ -375,35 +435,100 @@ mod tests {
     fn limits_of_a_writer() {
         let mut buffer = vec![0; 100];
         let writer = started(&mut buffer);
-        let mut answer = |writer: Writer| writer.close(&mut buffer).1;
-        for (place, expected) in [
-            (0, Err(9)),
-            (15, Err(9)),
-            (16, Ok(())),
-            (76, Ok(())),
-            (77, Err(7)),
-            (100, Err(7)),
-            (101, Err(9)),
-            (u64::MAX, Err(9)),
-        ] {
-            assert_eq!(answer(Writer { place, ..writer }), expected, "{place}");
+        for (kind, close) in [(Kind::Tag10, 24), (Kind::Tag14, 26)] {
+            for (place, expected) in [
+                (0, Err(9)),
+                (15, Err(9)),
+                (16, Ok(())),
+                (100 - close, Ok(())),
+                (101 - close, Err(7)),
+                (100, Err(7)),
+                (101, Err(9)),
+                (u64::MAX, Err(9)),
+            ] {
+                let (_, answer) = Writer { place, ..writer }.close_of(kind, &mut buffer);
+                assert_eq!(answer, expected, "{kind:?}, {place}");
+            }
         }
-        for (units, calls, expected) in [
-            (0, 1_024, Ok(())),
-            (0, 1_025, Err(9)),
-            (65_535, 1_024 * 65_536, Ok(())),
-            (65_535, 1_024 * 65_536 + 1, Err(9)),
-            (65_536, 0, Err(9)),
-            (u64::MAX, 0, Err(9)),
-            (u64::MAX, u64::MAX, Err(9)),
-            (u64::MAX / 1_024, u64::MAX, Err(9)),
+        // the answers of an earlier writer, with two bytes for its numbers, and of the writer
+        let (ok, bad) = (Ok(()), Err(9));
+        for (units, calls, old, wide) in [
+            (0, 1_024, ok, ok),
+            (0, 1_025, bad, bad),
+            (65_535, 1_024 * 65_536, ok, ok),
+            (65_535, 1_024 * 65_536 + 1, bad, bad),
+            (65_536, 0, bad, ok),
+            (65_536, 1_024 * 65_537, bad, ok),
+            (65_536, 1_024 * 65_537 + 1, bad, bad),
+            (16_777_214, 0, bad, ok),
+            (16_777_215, 1_024 * 16_777_216, bad, ok),
+            (16_777_215, 1_024 * 16_777_216 + 1, bad, bad),
+            (16_777_216, 0, bad, bad),
+            (16_777_216, 1_024 * 16_777_217, bad, bad),
+            (1 << 32, 0, bad, bad),
+            (u64::MAX, 0, bad, bad),
+            (u64::MAX, u64::MAX, bad, bad),
+            (u64::MAX / 1_024, u64::MAX, bad, bad),
         ] {
             let writer = Writer {
                 units,
                 calls,
                 ..writer
             };
-            assert_eq!(answer(writer), expected, "({units}, {calls})");
+            let answer = writer.close_of(Kind::Tag10, &mut buffer).1;
+            assert_eq!(answer, old, "({units}, {calls})");
+            let answer = writer.close(&mut buffer).1;
+            assert_eq!(answer, wide, "({units}, {calls})");
+        }
+        // "at most 16,777,215 units": the last unit of a writer, and one more
+        for (units, old, wide) in [
+            (65_534, Ok(()), Ok(())),
+            (65_535, Err(13), Ok(())),
+            (65_536, Err(9), Ok(())),
+            (16_777_214, Err(9), Ok(())),
+            (16_777_215, Err(9), Err(13)),
+            (16_777_216, Err(9), Err(9)),
+        ] {
+            let writer = Writer { units, ..writer };
+            let (from, to) = (*b"en", *b"de");
+            let answer = writer
+                .add_of(Kind::Tag10, &mut buffer, from, to, b"x", b"")
+                .1;
+            assert_eq!(answer, old, "{units}");
+            let answer = writer.add(&mut buffer, from, to, b"x", b"").1;
+            assert_eq!(answer, wide, "{units}");
+        }
+    }
+
+    /// The numbers of wide units and closes, with each byte set, in the header, and in the nonce: "the unit
+    /// number in 4 bytes (the count, at the close)".
+    #[test]
+    fn wide_numbers() {
+        let mut buffer = vec![0; 200];
+        let opening = started(&mut buffer);
+        let before = buffer[..16].to_vec();
+        for units in [0, 255, 256, 65_535, 65_536, 0x00FE_FDFC, 16_777_214] {
+            let writer = Writer { units, ..opening };
+            let (next, answer) = writer.add(&mut buffer, *b"en", *b"de", b"valve", b"");
+            assert_eq!(answer, Ok(()));
+            assert_eq!((next.place, next.units), (16 + 40, units + 1));
+            let number = (units as u32).to_be_bytes();
+            let head = [&[0x14, 0, 8][..], &number, b"ende"].concat();
+            assert_eq!(buffer[16..27], head);
+            let nonce = [&[0, 0, 0, 0, 0, 0, 0, 7][..], &number].concat();
+            let header = [&before[..], &head].concat();
+            let text = b"\x00\x05valve";
+            let (sealed, calls) = seal(1, 6, &[5; 16], &nonce, &header, text, 23).unwrap();
+            assert_eq!([&buffer[30..37], &buffer[40..56]].concat(), sealed);
+            assert_eq!(next.calls, calls as u64);
+
+            let (_, answer) = writer.close(&mut buffer);
+            assert_eq!(answer, Ok(()));
+            let head = [&[0x21, 0, 4][..], &number].concat();
+            assert_eq!(buffer[16..23], head);
+            let header = [&before[..], &head].concat();
+            let (tag, _) = seal(1, 6, &[5; 16], &nonce, &header, &[], 16).unwrap();
+            assert_eq!(buffer[26..42], tag);
         }
     }
 

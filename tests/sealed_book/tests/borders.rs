@@ -8,10 +8,9 @@ mod common;
 use common::checking::accepts;
 use common::fetching::{fetches, Which};
 use common::paging::pages;
-use common::parts::written;
+use common::parts::{books_of_each_kind, written};
 use common::sealing::Given;
 use common::writing::unit;
-use reference::book::{unit_len, Book};
 use reference::cipher::SUITES;
 use reference::random::Random;
 use sealed_book::raw::FIRST_UNIT;
@@ -77,12 +76,13 @@ fn lengths() -> Vec<(usize, usize)> {
 fn books() {
     let mut random = Random::new(SEED + 1);
     let name = format!("seed {:X}", SEED + 1);
-    for suite in SUITES {
-        let mut book = Book::random(&mut random, suite);
+    let books = SUITES.map(|suite| books_of_each_kind(&mut random, suite));
+    for mut book in books.into_iter().flatten() {
         let units = lengths().into_iter();
         book.units = units.map(|(s, t)| unit(&mut random, s, t)).collect();
         let (bytes, writer) = written(&book);
         let (laid_out, calls) = book.laid_out();
+        let suite = (book.cipher, book.steps);
         assert!(bytes == laid_out, "as the reference: {suite:?}, {name}");
         assert_eq!(writer.calls, calls as u64, "{suite:?}, {name}");
         accepts(&book.key, &bytes, writer.units, writer.calls, &name);
@@ -92,7 +92,7 @@ fn books() {
             for which in [Which::Walked(k as u64), Which::Placed(k as u64, at)] {
                 fetches(&book.key, &bytes, which, unit, &name);
             }
-            at += unit_len(unit);
+            at += unit.len(book.kind);
         }
         let typed = &book.units[random.below(book.units.len())].source;
         pages(&book, &bytes, typed, &name);

@@ -1,21 +1,19 @@
 //! Books that checking accepts, with their unit counts and call totals: those of the vectors, those that
-//! the library writes, and the longest.
+//! the library writes, those of the earlier writer, and the longest of these.
 
 mod common;
 
 use common::checking::{accepts, check_gives, checked};
-use common::parts::{random_book, unit_fields, written};
+use common::parts::{books_of_each_kind, random_book, some_book, written};
 use common::writing::unit;
-use reference::book::Book;
-use reference::check::check;
+use reference::book::{Book, Kind};
 use reference::cipher::SUITES;
 use reference::random::Random;
-use reference::vectors::book_vectors;
-use sealed_book::raw::CLOSE_ROOM;
+use reference::vectors::{book_vectors, books_vectors};
 
 const SEED: u64 = 0x4348_4543;
 
-/// Has the library write the book and check it; both give the counts of the reference.
+/// Has the book written and the library check it; both give the counts of the reference.
 fn accepts_written(book: &Book, name: &str) -> Vec<u8> {
     let (bytes, writer) = written(book);
     assert_eq!(writer.units, book.units.len() as u64, "{name}");
@@ -26,23 +24,25 @@ fn accepts_written(book: &Book, name: &str) -> Vec<u8> {
 #[test]
 fn book_vectors_hold() {
     let mut accepted = 0;
-    for v in book_vectors() {
+    for v in book_vectors().into_iter().chain(books_vectors()) {
         let expected = v.answer.map(|(units, calls)| (units as u64, calls as u64));
         let answer = checked(&v.key, &v.book, &format!("line {}", v.line));
         assert_eq!(answer, expected, "reference: line {}", v.line);
         accepted += usize::from(answer.is_ok());
     }
-    assert_eq!(accepted, 8);
+    assert_eq!(accepted, 8 + 19);
 }
 
-/// Known value 8.
+/// Known value 8, as printed, and as the writer makes it.
 #[test]
 fn known_book() {
     let mut random = Random::new(SEED);
-    let book = Book::known(random.bytes());
-    let (bytes, _) = written(&book);
-    assert_eq!(bytes.len(), 84);
-    accepts(&book.key, &bytes, 1, 7, "known value 8");
+    for (kind, len) in [(Kind::Tag10, 84), (Kind::Tag14, 88)] {
+        let book = Book::known(kind, random.bytes());
+        let (bytes, _) = written(&book);
+        assert_eq!(bytes.len(), len);
+        accepts(&book.key, &bytes, 1, 7, "known value 8");
+    }
 }
 
 /// The opening fields and a close, with book numbers at the ends of their range.
@@ -51,11 +51,12 @@ fn empty_books() {
     let mut random = Random::new(SEED + 1);
     for suite in SUITES {
         for number in [0, 1, 0xFF, 0x0102_0304_0506_0708, 1 << 63, u64::MAX] {
-            let mut book = Book::random(&mut random, suite);
-            book.number = number;
-            let (bytes, _) = written(&book);
-            assert_eq!(bytes.len(), 40);
-            accepts(&book.key, &bytes, 0, 3, &format!("book {number}"));
+            for mut book in books_of_each_kind(&mut random, suite) {
+                book.number = number;
+                let (bytes, _) = written(&book);
+                assert_eq!(bytes.len(), 16 + book.kind.close_len());
+                accepts(&book.key, &bytes, 0, 3, &format!("book {number}"));
+            }
         }
     }
 }
@@ -65,9 +66,10 @@ fn empty_books() {
 fn every_short_length() {
     let mut random = Random::new(SEED + 2);
     for s in 1..=40 {
-        let mut book = Book::random(&mut random, SUITES[s % 8]);
-        book.units = (0..=40).map(|t| unit(&mut random, s, t)).collect();
-        accepts_written(&book, &format!("source {s}, seed {:X}", SEED + 2));
+        for mut book in books_of_each_kind(&mut random, SUITES[s % 8]) {
+            book.units = (0..=40).map(|t| unit(&mut random, s, t)).collect();
+            accepts_written(&book, &format!("source {s}, seed {:X}", SEED + 2));
+        }
     }
 }
 
@@ -76,7 +78,7 @@ fn every_short_length() {
 fn long_segments() {
     let mut random = Random::new(SEED + 3);
     for suite in SUITES {
-        let mut book = Book::random(&mut random, suite);
+        let mut book = some_book(&mut random, suite);
         for (s, t) in [(4_096, 4_096), (1, 4_096), (4_096, 0), (256, 255)] {
             book.units.push(unit(&mut random, s, t));
         }
@@ -122,21 +124,57 @@ fn sixty_thousand_units() {
     assert!(writer.calls > 60_000 * (3 + 160 / 16));
 }
 
-/// The longest book, and one more unit behind its last one.
+/// The longest old book; and one unit more, which has its number in two bytes, where the count has not, nor has
+/// the unit behind it: "Refusals 9 and 13 move to the new limit, also for old books where it cannot occur."
 #[test]
 fn a_full_book() {
     let mut random = Random::new(SEED + 7);
     let mut book = Book::random(&mut random, (1, 6));
+    book.kind = Kind::Tag10;
     book.units = (0..65_535).map(|_| unit(&mut random, 1, 0)).collect();
     let (mut bytes, writer) = written(&book);
     let calls = 4 * 65_535 + 3;
     assert_eq!(writer.calls, calls);
     check_gives(&book.key, &bytes, Ok((65_535, calls)), "65,535 units");
 
-    let close = bytes.split_off(bytes.len() - CLOSE_ROOM);
-    let more = unit_fields(&book, 65_535, 65_535, *b"ende", &[0, 1, 2]);
-    bytes.extend(more.concat());
-    bytes.extend(close);
-    assert_eq!(check(&book.key, &bytes), Err(13));
-    check_gives(&book.key, &bytes, Err(13), "one unit more");
+    bytes.truncate(bytes.len() - 24);
+    let more = unit(&mut random, 1, 0);
+    bytes.extend(book.unit(book.kind, 65_535, &more).0);
+    check_gives(&book.key, &bytes, Err(14), "no close");
+    for number in [0, 1, 65_535] {
+        let close = book.close(book.kind, number).0;
+        let closed = [&bytes[..], &close].concat();
+        check_gives(&book.key, &closed, Err(15), "65,536 units");
+        let unit = book.unit(book.kind, number, &more).0;
+        let longer = [&bytes[..], &unit].concat();
+        check_gives(&book.key, &longer, Err(15), "65,537 units");
+    }
+}
+
+/// A wide book with more units than two bytes count; and a unit, or a close, whose number has the same low bytes.
+#[test]
+fn past_65_535_units() {
+    let mut random = Random::new(SEED + 8);
+    let mut book = Book::random(&mut random, (1, 6));
+    book.units = (0..65_540).map(|_| unit(&mut random, 1, 0)).collect();
+    let (mut bytes, writer) = written(&book);
+    let calls = 4 * 65_540 + 3;
+    assert_eq!((bytes.len(), writer.calls), (16 + 65_540 * 36 + 26, calls));
+    check_gives(&book.key, &bytes, Ok((65_540, calls)), "65,540 units");
+
+    bytes.truncate(bytes.len() - 26);
+    let more = &unit(&mut random, 1, 0);
+    for (number, expected) in [(4, Err(15)), (65_540, Ok((65_541, calls + 4)))] {
+        let unit = book.unit(book.kind, number, more).0;
+        let close = book.close(book.kind, 65_541).0;
+        let longer = [&bytes[..], &unit, &close].concat();
+        check_gives(&book.key, &longer, expected, "65,541 units");
+    }
+    let closed = [&bytes[..], &book.close(book.kind, 4).0].concat();
+    check_gives(
+        &book.key,
+        &closed,
+        Err(15),
+        "a count with the same low bytes",
+    );
 }

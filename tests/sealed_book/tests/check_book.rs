@@ -5,22 +5,25 @@
 
 mod common;
 
-use std::fs::{write, File};
+use std::fs::{read, write, File};
 use std::io::{ErrorKind, Write};
 use std::path::Path;
 use std::process::{Command, Stdio};
 use std::thread::sleep;
 use std::time::Duration;
 
-use common::parts::{close_fields, random_book, three_units, unit_fields, written, Parts};
+use common::document::root;
+use common::parts::{
+    close_fields, random_book, some_book, three_units, unit_fields, written, Parts,
+};
 use common::program::program;
 use common::spoiling::{bad_codes, bad_text, damage, some_frames};
 use common::writing::unit;
-use reference::book::Book;
+use reference::book::{Book, Kind};
 use reference::check::check;
 use reference::cipher::SUITES;
 use reference::random::Random;
-use reference::vectors::book_vectors;
+use reference::vectors::{book_vectors, books_vectors};
 
 const SEED: u64 = 0x5052_4F47;
 
@@ -81,19 +84,21 @@ fn line(key: &[u8], book: &[u8]) -> String {
     }
 }
 
-/// Known value 8.
+/// Known value 8, as printed, and as the writer makes it.
 #[test]
 fn known_book() {
     let mut random = Random::new(SEED);
-    let book = Book::known(random.bytes());
-    let (bytes, _) = written(&book);
-    prints(&book.key, &bytes, "ok units=1 calls=7", "known value 8");
-    prints(&random.bytes::<16>(), &bytes, "refused 8", "another key");
+    for kind in Kind::ALL {
+        let book = Book::known(kind, random.bytes());
+        let (bytes, _) = written(&book);
+        prints(&book.key, &bytes, "ok units=1 calls=7", "known value 8");
+        prints(&random.bytes::<16>(), &bytes, "refused 8", "another key");
+    }
 }
 
 #[test]
 fn book_vectors_hold() {
-    for v in book_vectors() {
+    for v in book_vectors().into_iter().chain(books_vectors()) {
         let expected = match v.answer {
             Ok((units, calls)) => format!("ok units={units} calls={calls}"),
             Err(number) => format!("refused {number}"),
@@ -106,7 +111,7 @@ fn book_vectors_hold() {
 #[test]
 fn short_inputs() {
     let mut random = Random::new(SEED + 1);
-    let (book, _) = written(&Book::known(random.bytes()));
+    let (book, _) = written(&Book::known(Kind::NEWEST, random.bytes()));
     for len in 0..16 {
         let input = random.some_bytes(len);
         prints(&input, &[], "refused 2", "no whole key");
@@ -124,7 +129,7 @@ fn short_inputs() {
 /// A refusal's number, what is changed, and the change.
 type Change<'a> = (u32, &'a str, &'a dyn Fn(&mut Random, &mut Parts));
 
-/// Each refusal that checking gives of a book that is not too long. 13 would take a longer one.
+/// Each refusal that checking gives of a book that is not too long. 13 would take a much longer one.
 #[test]
 fn each_refusal() {
     let mut random = Random::new(SEED + 2);
@@ -141,7 +146,9 @@ fn each_refusal() {
             (1, "suite", &|_, parts| parts.opening[15] = 7),
             (8, "book number", &|_, parts| parts.opening[9] ^= 1),
             (8, "ciphertext", &|_, parts| parts.units[1][20] ^= 1),
-            (8, "the close's tag", &|_, parts| parts.close[23] ^= 0x80),
+            (8, "the close's tag", &|_, parts| {
+                *parts.close.last_mut().expect("a tag") ^= 0x80
+            }),
             (11, "languages", &|random, parts| {
                 let codes = bad_codes(random);
                 parts.units[2] = unit_fields(&book, 2, 2, codes, &book.units[2].text()).concat();
@@ -168,14 +175,15 @@ fn each_refusal() {
 
 /// A book of so many bytes, of long units and of short ones; the last one takes what is left.
 fn book_of(random: &mut Random, suite: (u8, u8), len: usize, (s, t): (usize, usize)) -> Book {
-    let mut book = Book::random(random, suite);
-    let mut left = len - 16 - 24;
-    while left >= 2 * (33 + 1) + s + t + 33 {
+    let mut book = some_book(random, suite);
+    let around = book.kind.unit_len(0, 0);
+    let mut left = len - 16 - book.kind.close_len();
+    while left >= 2 * (around + 1) + s + t + around {
         book.units.push(unit(random, s, t));
-        left -= 33 + s + t;
+        left -= around + s + t;
     }
-    let half = (left - 33) / 2;
-    book.units.push(unit(random, left - 33 - half, half));
+    let half = (left - around) / 2;
+    book.units.push(unit(random, left - around - half, half));
     book
 }
 
@@ -215,14 +223,14 @@ fn as_long_as_may_be() {
             "without its last byte",
         );
     }
-    assert!(units.iter().any(|units| *units < 10) && units.iter().any(|units| *units > 1_900));
+    assert!(units.iter().any(|units| *units < 10) && units.iter().any(|units| *units > 1_800));
 }
 
 /// What is too long is not looked at.
 #[test]
 fn too_long() {
     let mut random = Random::new(SEED + 4);
-    let (book, _) = written(&Book::known(random.bytes()));
+    let (book, _) = written(&Book::known(Kind::NEWEST, random.bytes()));
     for len in [
         MOST + 1,
         MOST + 2,
@@ -313,4 +321,34 @@ fn random_books() {
         );
     }
     assert!((40..100).contains(&accepted), "{accepted}");
+}
+
+/// The stored runs of known value 8 under a key of 00, 01, .. 0F: as printed, as the writer makes it, and as printed
+/// but with the close of a wide book, sealed rightly, which is of another kind. The second implementation lays them
+/// out again, and says each line.
+#[test]
+fn stored_runs_of_both_kinds() {
+    let key = std::array::from_fn(|i| i as u8);
+    let [old, wide] = Kind::ALL.map(|kind| Book::known(kind, key));
+    let (mut mixed, _) = old.laid_out();
+    mixed.truncate(mixed.len() - Kind::Tag10.close_len());
+    mixed.extend(old.close(Kind::Tag14, 1).0);
+    for (name, book, expected) in [
+        ("case_8", old.laid_out().0, "ok units=1 calls=7"),
+        ("case_8_wide", wide.laid_out().0, "ok units=1 calls=7"),
+        ("wide_close_in_old_book", mixed, "refused 14"),
+    ] {
+        let stored = |end: &str| {
+            let file = root().join(format!("tests/check_book/{name}.{end}"));
+            read(&file).expect("the stored run is there")
+        };
+        assert_eq!(stored("stdin"), [&key[..], &book].concat(), "{name}");
+        assert_eq!(line(&key, &book), expected, "{name}");
+        assert_eq!(
+            stored("stdout"),
+            format!("{expected}\n").as_bytes(),
+            "{name}"
+        );
+        prints(&key, &book, expected, name);
+    }
 }

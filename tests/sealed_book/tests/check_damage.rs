@@ -4,15 +4,15 @@ mod common;
 
 use common::checking::{accepts, checked, refuses};
 use common::parts::{
-    close_fields, random_book, renumber, three_units, unit_fields, written, Parts,
+    close_fields, number_in, random_book, renumber, some_book, three_units, unit_fields, written,
+    Parts,
 };
 use common::spoiling::damage;
 use common::swapped;
 use common::writing::unit;
-use reference::book::{Book, CIPHERTEXT};
+use reference::book::Book;
 use reference::cipher::SUITES;
 use reference::random::Random;
-use sealed_book::raw::CLOSE_ROOM;
 
 const SEED: u64 = 0x4344_414D;
 
@@ -42,7 +42,7 @@ fn changed_bytes() {
     for (book, bytes) in small_books(&mut random) {
         for at in 0..bytes.len() {
             let changes = [1, 2, 4, 8, 16, 32, 64, 128, 255].map(|change| bytes[at] ^ change);
-            let tags = [0x01, 0x02, 0x10, 0x11, 0x12, 0x20];
+            let tags = [0x01, 0x02, 0x10, 0x11, 0x12, 0x14, 0x20, 0x21];
             for byte in changes.into_iter().chain(tags) {
                 let mut damaged = bytes.clone();
                 damaged[at] = byte;
@@ -87,9 +87,10 @@ fn bytes_taken_away() {
 fn bytes_put_in() {
     let mut random = Random::new(SEED + 3);
     for (book, bytes) in small_books(&mut random) {
-        let mut more = vec![bytes[bytes.len() - CLOSE_ROOM..].to_vec(), bytes.clone()];
-        more.extend([1, 2, 3, 16, 24, 300].map(|len| random.some_bytes(len)));
-        more.extend([0x00, 0x10, 0x20, 0xFF].map(|byte| vec![byte]));
+        let close = bytes.len() - book.kind.close_len();
+        let mut more = vec![bytes[close..].to_vec(), bytes.clone()];
+        more.extend([1, 2, 3, 16, 24, 26, 300].map(|len| random.some_bytes(len)));
+        more.extend([0x00, 0x10, 0x14, 0x20, 0x21, 0xFF].map(|byte| vec![byte]));
         for more in more {
             let name = format!("{} bytes left over", more.len());
             refuses(&book.key, &[&bytes[..], &more].concat(), 14, &name);
@@ -163,9 +164,10 @@ fn wrong_count() {
         let book = three_units(&mut random, suite);
         let parts = Parts::of(&book);
         assert_eq!(parts.close, close_fields(&book, 3, 3).concat());
+        let count_end = 3 + book.kind.number_bytes();
         for count in [0, 1, 2, 4, 0x103, 0x300, 0xFFFF] {
             let mut changed = parts.clone();
-            changed.close[3..5].copy_from_slice(&(count as u16).to_be_bytes());
+            changed.close[3..count_end].copy_from_slice(&number_in(book.kind, count));
             refuses(&book.key, &changed.joined(), 15, "count changed");
             for units in [3, count] {
                 changed.close = close_fields(&book, units, count).concat();
@@ -182,7 +184,7 @@ fn wrong_count() {
                 let name = "a book of the first units";
                 accepts(&book.key, &changed.joined(), count as u64, calls, name);
                 changed.close = parts.close.clone();
-                changed.close[3..5].copy_from_slice(&(count as u16).to_be_bytes());
+                changed.close[3..count_end].copy_from_slice(&number_in(book.kind, count));
                 refuses(
                     &book.key,
                     &changed.joined(),
@@ -204,6 +206,7 @@ fn parts_of_another_book() {
         let book = three_units(&mut random, suite);
         let parts = Parts::of(&book);
         let mut others = vec![three_units(&mut random, suite), book.clone(), book.clone()];
+        others[0].kind = book.kind;
         others[1].number ^= 1;
         others[2].key[15] ^= 1;
         for (cipher, steps) in SUITES.into_iter().filter(|other| *other != suite) {
@@ -248,15 +251,16 @@ fn blocks_exchanged_in_a_unit() {
                 &[(0, 1), (0, 256), (17, 273), (255, 256), (510, 511)],
             ),
         ] {
-            let mut book = Book::random(&mut random, suite);
+            let mut book = some_book(&mut random, suite);
+            let ciphertext = book.kind.ciphertext_at();
             let s = (len - 2) / 2;
             book.units = vec![unit(&mut random, 3, 3), unit(&mut random, s, len - 2 - s)];
             let mut parts = Parts::of(&book);
             let whole = parts.units[1].clone();
             for &(one, other) in pairs {
                 let name = format!("blocks {one} and {other} of {len} bytes");
-                let blocks = swapped(&whole[CIPHERTEXT..], one, other);
-                parts.units[1] = [&whole[..CIPHERTEXT], &blocks].concat();
+                let blocks = swapped(&whole[ciphertext..], one, other);
+                parts.units[1] = [&whole[..ciphertext], &blocks].concat();
                 refuses(&book.key, &parts.joined(), 8, &name);
             }
         }
@@ -268,17 +272,19 @@ fn blocks_exchanged_in_a_unit() {
 fn parts_exchanged_between_units() {
     let mut random = Random::new(SEED + 8);
     for suite in SUITES {
-        let mut book = Book::random(&mut random, suite);
+        let mut book = some_book(&mut random, suite);
         book.units = (0..3).map(|_| unit(&mut random, 40, 38)).collect();
         let parts = Parts::of(&book);
-        let tag = CIPHERTEXT + 80 + 3;
+        let start = book.kind.ciphertext_at();
+        let tag = start + 80 + 3;
+        let close_tag = book.kind.close_len() - 16;
         let ranges = [
-            (CIPHERTEXT..CIPHERTEXT + 16, "the first block"),
-            (CIPHERTEXT + 16..CIPHERTEXT + 32, "the second block"),
-            (CIPHERTEXT + 64..CIPHERTEXT + 80, "the last block"),
-            (CIPHERTEXT..CIPHERTEXT + 80, "the ciphertext"),
+            (start..start + 16, "the first block"),
+            (start + 16..start + 32, "the second block"),
+            (start + 64..start + 80, "the last block"),
+            (start..start + 80, "the ciphertext"),
             (tag..tag + 16, "the tag"),
-            (CIPHERTEXT..tag + 16, "ciphertext and tag"),
+            (start..tag + 16, "ciphertext and tag"),
         ];
         for (one, other) in [(0, 1), (1, 2), (0, 2)] {
             for (range, name) in &ranges {
@@ -290,10 +296,10 @@ fn parts_exchanged_between_units() {
             }
         }
         let mut changed = parts.clone();
-        changed.close[8..].copy_from_slice(&parts.units[2][tag..]);
+        changed.close[close_tag..].copy_from_slice(&parts.units[2][tag..]);
         refuses(&book.key, &changed.joined(), 8, "a unit's tag in the close");
         changed = parts.clone();
-        changed.units[2][tag..].copy_from_slice(&parts.close[8..]);
+        changed.units[2][tag..].copy_from_slice(&parts.close[close_tag..]);
         refuses(&book.key, &changed.joined(), 8, "the close's tag in a unit");
     }
 }
@@ -313,14 +319,16 @@ fn sealed_for_another_place() {
         let text = book.units[1].text();
         let unit = |running, number, codes| unit_fields(&book, running, number, codes, &text);
         change(unit(0, 1, *b"ende"), 8, "the nonce of another unit");
-        change(
-            unit(0x1_0001, 1, *b"ende"),
-            8,
-            "a nonce with the same two bytes",
-        );
+        for (running, name) in [
+            (0x1_0001, "a nonce with the same two bytes"),
+            (0x100_0001, "a nonce with the same three bytes"),
+        ] {
+            change(unit(running, 1, *b"ende"), 8, name);
+        }
         change(unit(1, 2, *b"ende"), 15, "the number of another unit");
         let mut codes = unit(1, 1, *b"ende");
-        codes[0][5..].copy_from_slice(b"deen");
+        let end = codes[0].len();
+        codes[0][end - 4..].copy_from_slice(b"deen");
         change(codes, 8, "codes exchanged after the sealing");
     }
 }
@@ -336,6 +344,7 @@ fn random_damage() {
         let book = random_book(&mut random, suite, units, 40);
         let other = random_book(&mut random, suite, 3, 40);
         let (bytes, writer) = written(&book);
+        // now and then of another kind
         let (other, _) = written(&Book {
             key: book.key,
             ..other

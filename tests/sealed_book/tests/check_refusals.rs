@@ -8,15 +8,17 @@ use std::process::Command;
 
 use common::causes::{first_is_given, sets, small_sets, Cause as _};
 use common::checking::{accepts, check_gives, checked, refuses, Answer};
-use common::parts::{close_fields, random_book, unit_fields, written, Parts};
+use common::parts::{
+    books_of_each_kind, close_fields, number_in, random_book, some_book, unit_fields, written,
+    Parts,
+};
 use common::refused::{first_of_each_set, random_case, spoiled, Cause, Cause::*, CAUSES};
 use common::spoiling::{text, LONG_TEXTS};
 use common::writing::unit;
 use common::{codes_with_each_byte, hex};
-use reference::book::Book;
+use reference::book::{Book, Kind};
 use reference::cipher::{listed, SUITES};
 use reference::random::Random;
-use sealed_book::raw::CLOSE_ROOM;
 
 const SEED: u64 = 0x4352_4546;
 
@@ -68,13 +70,17 @@ fn a_reader_from_the_page() {
     assert_eq!(String::from_utf8_lossy(&said), expected);
 }
 
-/// Behind 65,535 units: 13 before all but a malformed head.
+/// Behind 65,536 units of an old book, the last of which no earlier writer left: a unit 65,536 has no number in two
+/// bytes, and gets 15 before all but a malformed head, and never 13.
 #[test]
 fn causes_in_a_full_book() {
     let mut random = Random::new(SEED + 2);
     let mut book = Book::random(&mut random, (1, 6));
+    book.kind = Kind::Tag10;
     book.units = (0..65_535).map(|_| unit(&mut random, 1, 0)).collect();
-    let before = Parts::of(&book);
+    let mut before = Parts::of(&book);
+    let last = unit(&mut random, 1, 0);
+    before.units.push(book.unit(book.kind, 65_535, &last).0);
     for set in [
         &[FullBook][..],
         &[FullBook, UnitNumber],
@@ -136,7 +142,7 @@ fn every_byte_in_a_code() {
     let mut random = Random::new(SEED + 5);
     let (mut passed, mut equal) = (0, 0);
     for (byte, codes) in codes_with_each_byte() {
-        let book = Book::random(&mut random, (1, 6));
+        let book = some_book(&mut random, (1, 6));
         let mut parts = Parts::of(&book);
         parts.units = vec![unit_fields(&book, 0, 0, codes, &[0, 1, 2]).concat()];
         parts.close = close_fields(&book, 1, 1).concat();
@@ -154,64 +160,86 @@ fn every_byte_in_a_code() {
     assert_eq!((passed, equal), (4 * 25, 4));
 }
 
-/// Where each field begins and ends: those before the close in a book with a unit of 11 bytes, those of
+/// Where each field begins and ends: those before the close in a book with a unit of 11 bytes, and those of
 /// the close in a book with no unit.
-const UNIT_BOOK: [(usize, usize); 5] = [(0, 11), (11, 16), (16, 25), (25, 41), (41, 60)];
-const EMPTY_BOOK: [(usize, usize); 2] = [(16, 21), (21, 40)];
+fn fields_of(kind: Kind) -> ([(usize, usize); 5], [(usize, usize); 2]) {
+    match kind {
+        Kind::Tag10 => (
+            [(0, 11), (11, 16), (16, 25), (25, 41), (41, 60)],
+            [(16, 21), (21, 40)],
+        ),
+        Kind::Tag14 => (
+            [(0, 11), (11, 16), (16, 27), (27, 43), (43, 62)],
+            [(16, 23), (23, 42)],
+        ),
+    }
+}
 
 /// Every length in the head of each field, and every tag, in books that would get 8 next.
 #[test]
 fn every_field_head() {
     let mut random = Random::new(SEED + 6);
-    let mut book = Book::random(&mut random, (1, 6));
-    let (mut empty, _) = written(&book);
-    book.units.push(unit(&mut random, 5, 6));
-    let (mut one, _) = written(&book);
-    empty[39] ^= 1;
-    one[59] ^= 1;
-    refuses(&book.key, &empty, 8, "the close's tag changed");
-    refuses(&book.key, &one, 8, "the unit's tag changed");
-    let places = UNIT_BOOK.map(|place| (&one, place)).into_iter();
-    for (bytes, (at, end)) in places.chain(EMPTY_BOOK.map(|place| (&empty, place))) {
-        let mut changed = bytes.clone();
-        for len in 0..=65_535u16 {
-            changed[at + 1..at + 3].copy_from_slice(&len.to_be_bytes());
-            // a ciphertext that ends before the close's tag is framed, and not that tag's
-            let number = if (at, len) == (25, 37) { 8 } else { 14 };
-            if usize::from(len) != end - at - 3 {
-                let name = format!("field at {at}, length {len}");
-                refuses(&book.key, &changed, number, &name);
+    for mut book in books_of_each_kind(&mut random, (1, 6)) {
+        let (of_unit, of_close) = fields_of(book.kind);
+        let (mut empty, _) = written(&book);
+        book.units.push(unit(&mut random, 5, 6));
+        let (mut one, _) = written(&book);
+        empty[of_close[1].1 - 1] ^= 1;
+        one[of_unit[4].1 - 1] ^= 1;
+        refuses(&book.key, &empty, 8, "the close's tag changed");
+        refuses(&book.key, &one, 8, "the unit's tag changed");
+        let places = of_unit.map(|place| (&one, place)).into_iter();
+        for (bytes, (at, end)) in places.chain(of_close.map(|place| (&empty, place))) {
+            let mut changed = bytes.clone();
+            for len in 0..=65_535u16 {
+                changed[at + 1..at + 3].copy_from_slice(&len.to_be_bytes());
+                // a ciphertext that ends before the close's tag is framed, and not that tag's
+                let longer = 13 + 19 + of_close[0].1 - of_close[0].0;
+                let framed = at == of_unit[3].0 && usize::from(len) == longer;
+                let number = if framed { 8 } else { 14 };
+                if usize::from(len) != end - at - 3 {
+                    let name = format!("field at {at}, length {len}");
+                    refuses(&book.key, &changed, number, &name);
+                }
             }
-        }
-        let mut changed = bytes.clone();
-        for tag in 0..=255 {
-            changed[at] = tag;
-            if tag != bytes[at] {
-                refuses(
-                    &book.key,
-                    &changed,
-                    14,
-                    &format!("field at {at}, tag {tag:02X}"),
-                );
+            let mut changed = bytes.clone();
+            for tag in 0..=255 {
+                changed[at] = tag;
+                if tag != bytes[at] {
+                    refuses(
+                        &book.key,
+                        &changed,
+                        14,
+                        &format!("field at {at}, tag {tag:02X}"),
+                    );
+                }
             }
         }
     }
 }
 
-/// Every number in a unit's head and every count in the close's.
+/// Every number of two bytes in a unit's head and every count in the close's, and of a wide one many of four.
 #[test]
 fn every_number() {
     let mut random = Random::new(SEED + 7);
-    for units in [0, 1] {
-        let book = random_book(&mut random, (1, 6), units + 1, 3);
+    let wide = (0..=65_535).map(|number| number << 16);
+    let wide: Vec<usize> = wide.flat_map(|high| [high, high + 1]).collect();
+    for (units, kind) in [0, 1]
+        .into_iter()
+        .flat_map(|n| Kind::ALL.map(|kind| (n, kind)))
+    {
+        let mut book = random_book(&mut random, (1, 6), units + 1, 3);
+        book.kind = kind;
         let parts = Parts::of(&book);
         let start = [&parts.opening[..], &parts.units[..units].concat()].concat();
-        for number in 0..=65_535usize {
-            let two = (number as u16).to_be_bytes();
+        let end = 3 + kind.number_bytes();
+        let more = if kind == Kind::Tag14 { &wide[..] } else { &[] };
+        for number in (0..=65_535).chain(more.iter().copied()) {
+            let digits = number_in(kind, number);
             let mut rest = parts.units[units].clone();
-            rest[3..5].copy_from_slice(&two);
+            rest[3..end].copy_from_slice(&digits);
             let mut close = parts.close.clone();
-            close[3..5].copy_from_slice(&two);
+            close[3..end].copy_from_slice(&digits);
             if number != units {
                 let name = format!("number {number}");
                 check_gives(&book.key, &[&start[..], &rest].concat(), Err(15), &name);
@@ -232,7 +260,7 @@ fn every_number() {
 /// What the library and the reference say of a book with one unit of this text, sealed.
 fn of_text(random: &mut Random, text: &[u8], name: &str) -> Answer {
     let suite = random.one_of(&SUITES);
-    let book = Book::random(random, suite);
+    let book = some_book(random, suite);
     let mut parts = Parts::of(&book);
     parts.units = vec![unit_fields(&book, 0, 0, *b"ende", text).concat()];
     parts.close = close_fields(&book, 1, 1).concat();
@@ -273,21 +301,26 @@ fn long_texts() {
     }
 }
 
-/// Every byte behind the opening fields and behind a unit: a close has to begin with 20, a unit with 10.
+/// Every byte behind the opening fields and behind a unit: a close has to begin with 20 or 21, a unit with 10 or
+/// 14, as its kind says.
 #[test]
 fn every_next_byte() {
     let mut random = Random::new(SEED + 10);
-    for units in [0, 1] {
-        let book = random_book(&mut random, (1, 6), units, 20);
+    for (units, kind) in [0, 1]
+        .into_iter()
+        .flat_map(|n| Kind::ALL.map(|kind| (n, kind)))
+    {
+        let mut book = random_book(&mut random, (1, 6), units, 20);
+        book.kind = kind;
         let (whole, writer) = written(&book);
-        let (start, close) = whole.split_at(whole.len() - CLOSE_ROOM);
+        let (start, close) = whole.split_at(whole.len() - kind.close_len());
         for byte in 0..=255 {
             let behind = [start, &[byte]].concat();
             refuses(&book.key, &behind, 14, &format!("{byte:02X} alone"));
             let as_close = [start, &[byte], &close[1..]].concat();
-            match byte {
-                0x20 => accepts(&book.key, &as_close, units as u64, writer.calls, ""),
-                _ => refuses(
+            match byte == kind.close_tag() {
+                true => accepts(&book.key, &as_close, units as u64, writer.calls, ""),
+                false => refuses(
                     &book.key,
                     &as_close,
                     14,

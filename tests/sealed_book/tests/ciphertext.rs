@@ -7,14 +7,16 @@ use std::ops::Range;
 
 use common::causes::sets;
 use common::fetching::{answer_of, part, part_gives, Which::Walked};
-use common::parts::{close_fields, random_book, three_units, unit_fields, written, Parts};
+use common::parts::{
+    close_fields, random_book, renumber, some_book, three_units, unit_fields, written, Parts,
+};
 use common::spoiled::{spoiled, Cause, Cause::*, CLOSE, UNIT_FRAME, WALK};
 use common::spoiling::{bad_text, damage, some_frames};
 use common::writing::unit;
-use reference::book::{places, Book, CIPHERTEXT};
+use reference::book::{places, Book, Kind};
 use reference::cipher::SUITES;
 use reference::random::Random;
-use reference::vectors::book_vectors;
+use reference::vectors::{book_vectors, books_vectors};
 use sealed_book::raw;
 
 const SEED: u64 = 0x4349_5048;
@@ -24,7 +26,7 @@ fn parts_of(book: &Book) -> Vec<Range<usize>> {
     let units = book.units.iter().zip(places(book));
     units
         .map(|(unit, place)| {
-            let start = place + CIPHERTEXT;
+            let start = place + book.kind.ciphertext_at();
             start..start + unit.text().len()
         })
         .collect()
@@ -57,7 +59,15 @@ fn opens_to_each_text(book: &Book, bytes: &[u8], name: &str) {
         assert_eq!(text, unit.text(), "{k}, {name}");
     }
     let units = book.units.len() as u64;
-    for k in [units, units + 1, 1 << 16, (1 << 16) + 1, 1 << 32, u64::MAX] {
+    for k in [
+        units,
+        units + 1,
+        1 << 16,
+        (1 << 16) + 1,
+        1 << 24,
+        1 << 32,
+        u64::MAX,
+    ] {
         assert_eq!(part(bytes, k, name), 0..0, "reference: {k}, {name}");
     }
 }
@@ -65,7 +75,7 @@ fn opens_to_each_text(book: &Book, bytes: &[u8], name: &str) {
 #[test]
 fn book_vectors_hold() {
     let mut units = 0;
-    for v in book_vectors() {
+    for v in book_vectors().into_iter().chain(books_vectors()) {
         let name = format!("line {}", v.line);
         let key = v.key[..].try_into().expect("16 bytes");
         if let Some(book) = Book::taken_apart(&key, &v.book) {
@@ -76,18 +86,20 @@ fn book_vectors_hold() {
             part(&v.book, k, &name);
         }
     }
-    assert_eq!(units, 14);
+    assert_eq!(units, 14 + 29);
 }
 
-/// Known value 8's field 11 has its 13 bytes at 28.
+/// Known value 8's field 11 has its 13 bytes at 28, and at 30 as the writer makes it.
 #[test]
 fn known_book() {
     let mut random = Random::new(SEED);
-    let book = Book::known(random.bytes());
-    let (bytes, _) = written(&book);
-    opens_to_each_text(&book, &bytes, "known value 8");
-    assert_eq!(raw::ciphertext(&bytes, 0), 28..41);
-    assert_eq!(raw::ciphertext(&bytes, 1), 0..0);
+    for (kind, part) in [(Kind::Tag10, 28..41), (Kind::Tag14, 30..43)] {
+        let book = Book::known(kind, random.bytes());
+        let (bytes, _) = written(&book);
+        opens_to_each_text(&book, &bytes, "known value 8");
+        assert_eq!(raw::ciphertext(&bytes, 0), part);
+        assert_eq!(raw::ciphertext(&bytes, 1), 0..0);
+    }
     part_gives(&[], 0, 0..0, "no book");
 }
 
@@ -95,7 +107,7 @@ fn known_book() {
 fn books_of_all_lengths() {
     let mut random = Random::new(SEED + 1);
     for suite in SUITES {
-        let mut book = Book::random(&mut random, suite);
+        let mut book = some_book(&mut random, suite);
         for (s, t) in [
             (1, 0),
             (4_096, 4_096),
@@ -114,25 +126,6 @@ fn books_of_all_lengths() {
     let parts = parts_of(&book);
     for k in 0..310 {
         part_gives(&bytes, k as u64, expected(&parts, k), "300 units");
-    }
-}
-
-/// The longest book, and one more unit behind its last one.
-#[test]
-fn a_full_book() {
-    let mut random = Random::new(SEED + 2);
-    let mut book = Book::random(&mut random, (1, 6));
-    book.units = (0..65_535).map(|_| unit(&mut random, 1, 0)).collect();
-    let (mut bytes, _) = written(&book);
-    let parts = parts_of(&book);
-    for k in [0, 256, 65_534, 65_535, 65_536, usize::MAX] {
-        part_gives(&bytes, k as u64, expected(&parts, k), "65,535 units");
-    }
-    bytes.truncate(bytes.len() - raw::CLOSE_ROOM);
-    let more = unit_fields(&book, 65_535, 65_535, *b"ende", &[0, 1, 2]);
-    bytes.extend(more.concat());
-    for k in [65_534, 65_535, 65_536] {
-        part_gives(&bytes, k as u64, expected(&parts, k), "one unit more");
     }
 }
 
@@ -226,7 +219,7 @@ fn seals_are_not_looked_at() {
             part_gives(&changed.joined(), k, 0..0, "exchanged");
         }
         for (i, unit) in changed.units.iter_mut().enumerate() {
-            unit[4] = i as u8;
+            renumber(unit, i as u8);
         }
         changed.close = close_fields(&book, 2, 2).concat();
         for k in 0..4 {
@@ -239,7 +232,7 @@ fn seals_are_not_looked_at() {
         let bytes = changed.joined();
         let start = parts[1].start;
         part_gives(&bytes, 1, start..start + m, "out of range");
-        let third = places(&book)[1] + changed.units[1].len() + CIPHERTEXT;
+        let third = places(&book)[1] + changed.units[1].len() + book.kind.ciphertext_at();
         part_gives(&bytes, 2, third..third + 43, "behind it");
         part_gives(&bytes, 3, 0..0, "behind it");
     }
@@ -274,7 +267,7 @@ fn random_books() {
                 damage(&mut random, &mut bytes, &other);
             }
         } else {
-            book = Book::random(&mut random, suite);
+            book = some_book(&mut random, suite);
             bytes = some_frames(&mut random, &book);
         }
         let k = random.one_of(&[0, 1, 2, 3, 4, u64::MAX]);

@@ -10,15 +10,18 @@ use common::fetching::{
     Which::{self, Placed, Walked},
     ROOM,
 };
-use common::parts::{close_fields, random_book, three_units, unit_fields, written, Parts};
+use common::parts::{
+    books_of_each_kind, close_fields, random_book, some_book, three_units, unit_fields, written,
+    Parts,
+};
 use common::spoiled::{spoiled, Cause, Cause::*, UNIT_FRAME, WALK};
-use common::spoiling::{bad_openings, damage, some_frames, some_places, TOO_MANY};
+use common::spoiling::{bad_openings, damage, some_frames, some_places, too_many, SOME_NUMBERS};
 use common::writing;
-use reference::book::{field, places, Book, CIPHERTEXT};
+use reference::book::{field, places, Book, Kind};
 use reference::cipher::{listed, SUITES};
 use reference::clear::{Clear, Info};
 use reference::random::Random;
-use reference::vectors::book_vectors;
+use reference::vectors::{book_vectors, books_vectors};
 use sealed_book::raw::{self, FIRST_UNIT};
 use sealed_book::Refusal;
 
@@ -26,12 +29,12 @@ const SEED: u64 = 0x434C_4541;
 
 /// What the units of a book say, as it was written.
 fn units_of(book: &Book) -> Vec<Clear> {
-    let places = places(book);
+    let (places, start) = (places(book), book.kind.ciphertext_at());
     let unit = |(k, unit): (usize, &reference::book::Unit)| Clear {
         at: places[k],
         from: unit.from.to_vec(),
         to: unit.to.to_vec(),
-        ciphertext: places[k] + CIPHERTEXT..places[k] + CIPHERTEXT + unit.text().len(),
+        ciphertext: places[k] + start..places[k] + start + unit.text().len(),
         next: places[k + 1],
     };
     book.units.iter().enumerate().map(unit).collect()
@@ -55,19 +58,22 @@ fn says_all(book: &Book, bytes: &[u8], name: &str) {
                 "reference: {which:?}, {name}"
             );
         }
-        for number in [k + 1, k ^ 1, k + 0x1_0000, usize::MAX] {
+        for number in [k + 1, k ^ 1, k + 0x1_0000, k + 0x100_0000, usize::MAX] {
             let number = number as u64;
-            let refusal = if number < 65_535 { 15 } else { 13 };
+            let refusal = if number < 16_777_215 { 15 } else { 13 };
             refuses(bytes, Placed(number, expected.at), refusal, name);
         }
     }
     let count = units.len() as u64;
     let close = *places(book).last().expect("the close");
     refuses(bytes, Placed(count, close), 16, name);
-    for number in [count + 1, count ^ 1, count + 0x1_0000, u64::MAX] {
+    for more in [0x1_0000, 0x100_0000, 1 << 32] {
+        refuses(bytes, Placed(count + more, close), 15, name);
+    }
+    for number in [count + 1, count ^ 1, u64::MAX] {
         refuses(bytes, Placed(number, close), 15, name);
     }
-    for k in [count, count + 1, 65_535, 65_536, 1 << 32, u64::MAX] {
+    for k in [count, count + 1, 65_536, 16_777_215, 1 << 32, u64::MAX] {
         refuses(bytes, Walked(k), 16, name);
     }
 }
@@ -75,7 +81,7 @@ fn says_all(book: &Book, bytes: &[u8], name: &str) {
 #[test]
 fn book_vectors_hold() {
     let mut units = 0;
-    for v in book_vectors() {
+    for v in book_vectors().into_iter().chain(books_vectors()) {
         let name = format!("line {}", v.line);
         let key = v.key[..].try_into().expect("16 bytes");
         if let Some(book) = Book::taken_apart(&key, &v.book) {
@@ -87,27 +93,29 @@ fn book_vectors_hold() {
             unit(&v.book, Walked(k), &name).ok();
         }
     }
-    assert_eq!(units, 14);
+    assert_eq!(units, 14 + 29);
 }
 
-/// Known value 8.
+/// Known value 8, as printed, and as the writer makes it.
 #[test]
 fn known_book() {
-    let book = Book::known([9; 16]);
-    let (bytes, _) = written(&book);
-    says_all(&book, &bytes, "known value 8");
-    let known = raw::Info {
-        cipher: 1,
-        steps: 10,
-        number: 7,
-    };
-    assert_eq!(raw::info(&bytes), Ok(known));
-    let unit = raw::unit(&bytes, 0).expect("unit 0");
-    assert_eq!((unit.from.as_str(), unit.to.as_str()), ("en", "de"));
-    assert_eq!((unit.at, unit.ciphertext.clone()), (16, 28..41));
-    assert_eq!(unit.next, 60);
-    assert_eq!(raw::unit_at(&bytes, 0, FIRST_UNIT), Ok(unit));
-    assert_eq!(raw::unit_at(&bytes, 1, 60), Err(Refusal::NoSuchUnit));
+    for (kind, part, close) in [(Kind::Tag10, 28..41, 60), (Kind::Tag14, 30..43, 62)] {
+        let book = Book::known(kind, [9; 16]);
+        let (bytes, _) = written(&book);
+        says_all(&book, &bytes, "known value 8");
+        let known = raw::Info {
+            cipher: 1,
+            steps: 10,
+            number: 7,
+        };
+        assert_eq!(raw::info(&bytes), Ok(known));
+        let unit = raw::unit(&bytes, 0).expect("unit 0");
+        assert_eq!((unit.from.as_str(), unit.to.as_str()), ("en", "de"));
+        assert_eq!((unit.at, unit.ciphertext.clone()), (16, part));
+        assert_eq!(unit.next, close);
+        assert_eq!(raw::unit_at(&bytes, 0, FIRST_UNIT), Ok(unit));
+        assert_eq!(raw::unit_at(&bytes, 1, close), Err(Refusal::NoSuchUnit));
+    }
 }
 
 #[test]
@@ -119,7 +127,7 @@ fn random_books() {
             let (bytes, _) = written(&book);
             says_all(&book, &bytes, &format!("{units} units, seed {SEED:X}"));
         }
-        let mut book = Book::random(&mut random, suite);
+        let mut book = some_book(&mut random, suite);
         for (s, t) in [(1, 0), (4_096, 4_096), (1, 4_096), (4_096, 0), (254, 0)] {
             book.units.push(writing::unit(&mut random, s, t));
         }
@@ -128,55 +136,29 @@ fn random_books() {
     }
 }
 
-/// From one unit to the next by what is said of it, in a book of some thousand units; fetching there says
+/// From one unit to the next by what is said of it, in books of some thousand units; fetching there says
 /// the same of the next one.
 #[test]
 fn from_unit_to_unit() {
     let mut random = Random::new(SEED + 1);
-    let book = random_book(&mut random, (1, 6), 3_000, 12);
-    let (bytes, _) = written(&book);
-    let mut out = [0; ROOM];
-    let mut at = FIRST_UNIT;
-    for (k, expected) in units_of(&book).into_iter().enumerate() {
-        let unit = raw::unit_at(&bytes, k as u64, at).expect("a unit");
-        assert_eq!(
-            (unit.at, unit.ciphertext),
-            (expected.at, expected.ciphertext)
-        );
-        let fetched = raw::fetch_at(&book.key, &bytes, k as u64, at, &mut out);
-        assert_eq!(fetched.expect("a unit").next, unit.next, "unit {k}");
-        at = unit.next;
+    for mut book in books_of_each_kind(&mut random, (1, 6)) {
+        book.units = random_book(&mut random, (1, 6), 3_000, 12).units;
+        let (bytes, _) = written(&book);
+        let mut out = [0; ROOM];
+        let mut at = FIRST_UNIT;
+        for (k, expected) in units_of(&book).into_iter().enumerate() {
+            let unit = raw::unit_at(&bytes, k as u64, at).expect("a unit");
+            assert_eq!(
+                (unit.at, unit.ciphertext),
+                (expected.at, expected.ciphertext)
+            );
+            let fetched = raw::fetch_at(&book.key, &bytes, k as u64, at, &mut out);
+            assert_eq!(fetched.expect("a unit").next, unit.next, "unit {k}");
+            at = unit.next;
+        }
+        assert_eq!(at, bytes.len() - book.kind.close_len());
+        assert_eq!(raw::unit_at(&bytes, 3_000, at), Err(Refusal::NoSuchUnit));
     }
-    assert_eq!(at, bytes.len() - raw::CLOSE_ROOM);
-    assert_eq!(raw::unit_at(&bytes, 3_000, at), Err(Refusal::NoSuchUnit));
-}
-
-/// The longest book, and one more unit behind its last one.
-#[test]
-fn a_full_book() {
-    let mut random = Random::new(SEED + 2);
-    let mut book = Book::random(&mut random, (1, 6));
-    book.units = (0..65_535)
-        .map(|_| writing::unit(&mut random, 1, 0))
-        .collect();
-    let (mut bytes, _) = written(&book);
-    let units = units_of(&book);
-    let gives = |bytes: &[u8], k: u64, beyond: u32, name: &str| {
-        let unit = units.get(usize::try_from(k).expect("in 64 bits"));
-        unit_gives(bytes, Walked(k), &unit.cloned().ok_or(beyond), name);
-    };
-    for k in [0, 1, 256, 65_533, 65_534, 65_535, 65_536, u64::MAX] {
-        gives(&bytes, k, 16, "65,535 units");
-    }
-    let close = bytes.len() - raw::CLOSE_ROOM;
-    refuses(&bytes, Placed(65_535, close), 16, "its close");
-    bytes.truncate(close);
-    let more = unit_fields(&book, 65_535, 65_535, *b"ende", &[0, 1, 2]);
-    bytes.extend(more.concat());
-    for k in [65_534, 65_535, 65_536, u64::MAX] {
-        gives(&bytes, k, 13, "one unit more");
-    }
-    refuses(&bytes, Placed(65_535, close), 13, "one unit more");
 }
 
 /// Every place of a small book and many past its end, under several numbers.
@@ -191,14 +173,14 @@ fn every_place() {
         let (places, units) = (places(&book), units_of(&book));
         let len = bytes.len();
         for at in some_places(len, &places) {
-            for number in [0, 1, 2, 3, 65_534, 65_535, 0x1_0000, 1 << 32, u64::MAX] {
+            for number in SOME_NUMBERS {
                 let name = format!("seed {:X}", SEED + 3);
                 let answer = unit(&bytes, Placed(number, at), &name);
                 let expected = match places.iter().position(|place| *place == at) {
                     Some(2) if number == 2 => Err(16),
                     Some(2) => Err(15),
                     Some(k) if number == k as u64 => Ok(units[k].clone()),
-                    Some(_) if number >= 65_535 => Err(13),
+                    Some(_) if number >= 16_777_215 => Err(13),
                     Some(_) => Err(15),
                     None if at < FIRST_UNIT || at >= len => Err(14),
                     // some byte of a unit, which may be a field's tag
@@ -210,32 +192,43 @@ fn every_place() {
     }
 }
 
-/// Every number that fits into two bytes, at a unit and at the close.
+/// Every number that fits into two bytes, and some that do not, at a unit and at the close.
 #[test]
 fn every_number() {
     let mut random = Random::new(SEED + 4);
-    let book = random_book(&mut random, (1, 6), 2, 9);
-    let (bytes, _) = written(&book);
-    let units = units_of(&book);
-    let [_, second, close] = places(&book)[..] else {
-        panic!("two units");
-    };
-    let wide = [0x1_0000, 0x1_0001, 0x1_0002, (1 << 32) + 1, u64::MAX];
-    for number in (0..0x1_0000).chain(wide) {
-        let expected = match number {
-            1 => Ok(units[1].clone()),
-            65_535.. => Err(13),
-            _ => Err(15),
+    for mut book in books_of_each_kind(&mut random, (1, 6)) {
+        book.units = random_book(&mut random, (1, 6), 2, 9).units;
+        let (bytes, _) = written(&book);
+        let units = units_of(&book);
+        let [_, second, close] = places(&book)[..] else {
+            panic!("two units");
         };
-        unit_gives(&bytes, Placed(number, second), &expected, "a unit");
-        let expected = if number == 2 { Err(16) } else { Err(15) };
-        unit_gives(&bytes, Placed(number, close), &expected, "the close");
+        let wide = [0x1_0001, 0x1_0002, 0x100_0001, (1 << 32) + 1, u64::MAX];
+        let limit = [16_777_214, 16_777_215, 16_777_216];
+        for number in (0..=0x1_0000).chain(wide).chain(limit) {
+            let expected = match number {
+                1 => Ok(units[1].clone()),
+                16_777_215.. => Err(13),
+                _ => Err(15),
+            };
+            unit_gives(&bytes, Placed(number, second), &expected, "a unit");
+            let expected = if number == 2 { Err(16) } else { Err(15) };
+            unit_gives(&bytes, Placed(number, close), &expected, "the close");
+        }
+        // the last number that a unit can have, and one more
+        let most = book.kind.most_units();
+        let more = match book.kind {
+            Kind::Tag10 => None,
+            Kind::Tag14 => Some(13),
+        };
+        for (number, expected) in [(most - 1, None), (most, more)] {
+            let last = unit_fields(&book, number, number, *b"ende", &[0, 1, 7]).concat();
+            let bytes = [&bytes[..FIRST_UNIT], &last].concat();
+            let answer = unit(&bytes, Placed(number as u64, FIRST_UNIT), "the last");
+            let expected = expected.map_or(Ok(bytes.len()), Err);
+            assert_eq!(answer.map(|unit| unit.next), expected);
+        }
     }
-    // the last number that a unit can have
-    let last = unit_fields(&book, 65_534, 65_534, *b"ende", &[0, 1, 7]).concat();
-    let bytes = [&bytes[..FIRST_UNIT], &last].concat();
-    let answer = unit(&bytes, Placed(65_534, FIRST_UNIT), "the last");
-    assert_eq!(answer.map(|unit| unit.next), Ok(bytes.len()));
 }
 
 /// Every byte of a small book changed, to every value: what is said of a unit is as written where the byte
@@ -272,10 +265,15 @@ fn changed_bytes() {
                 }
                 if let Some(place) = places.get(k) {
                     let placed = unit(&changed, Placed(k as u64, *place), &name);
-                    if (FIRST_UNIT..*place).contains(&at) {
+                    // of what stands before the place, only the first byte is looked at, which says the kind
+                    if (FIRST_UNIT + 1..*place).contains(&at) {
+                        assert_eq!(placed, expected, "{name}");
+                    } else if at != FIRST_UNIT || k == 0 {
+                        assert_eq!(placed, walked, "{name}");
+                    } else if Kind::read_as(&changed) == book.kind {
                         assert_eq!(placed, expected, "{name}");
                     } else {
-                        assert_eq!(placed, walked, "{name}");
+                        assert_eq!(placed, Err(14), "{name}");
                     }
                 }
             }
@@ -313,7 +311,7 @@ fn cut_and_lengthened() {
                 }
             }
         }
-        for more in [&[0][..], &[0x10], &[0x20], &bytes] {
+        for more in [&[0][..], &[0x10], &[0x14], &[0x20], &[0x21], &bytes] {
             let longer = [&bytes[..], more].concat();
             says_all(&book, &longer, "bytes left over");
         }
@@ -335,8 +333,8 @@ fn case(random: &mut Random, set: &[Cause], placed: bool, name: &str) -> Answer 
         false => Walked(case.k),
     };
     if placed && !set.contains(&OpeningFields) {
-        // not one byte between the opening fields and the place is looked at
-        random.fill(&mut case.book[FIRST_UNIT..case.place]);
+        // not one byte between the first, which says the kind, and the place is looked at
+        random.fill(&mut case.book[FIRST_UNIT + 1..case.place]);
     }
     let expected = [(OpeningFields, 14), (Suite, 1)];
     let expected = expected.iter().find(|(cause, _)| set.contains(cause));
@@ -370,13 +368,16 @@ fn every_set_of_causes() {
 #[test]
 fn too_many_units() {
     let mut random = Random::new(SEED + 9);
-    let (mut bytes, _) = written(&random_book(&mut random, (2, 8), 1, 9));
-    for (at, byte, number) in TOO_MANY {
-        let before = std::mem::replace(&mut bytes[at], byte);
-        for unit in [65_535, 65_536, u64::MAX] {
-            refuses(&bytes, Placed(unit, FIRST_UNIT), number, "a unit");
+    for mut book in books_of_each_kind(&mut random, (2, 8)) {
+        book.units = random_book(&mut random, (2, 8), 1, 9).units;
+        let (mut bytes, _) = written(&book);
+        for (at, byte, number) in too_many(book.kind) {
+            let before = std::mem::replace(&mut bytes[at], byte);
+            for unit in [16_777_215, 16_777_216, u64::MAX] {
+                refuses(&bytes, Placed(unit, FIRST_UNIT), number, "a unit");
+            }
+            bytes[at] = before;
         }
-        bytes[at] = before;
     }
 }
 
@@ -391,7 +392,7 @@ fn opening_fields_first() {
         0,
         3,
         16,
-        bytes.len() - raw::CLOSE_ROOM,
+        bytes.len() - book.kind.close_len(),
         bytes.len(),
         usize::MAX,
     ] {
@@ -419,7 +420,7 @@ fn book_numbers() {
     let mut random = Random::new(SEED + 11);
     let bits = (0..64).map(|bit| 1 << bit);
     for number in bits.chain([0, u64::MAX, 0x0102_0304_0506_0708]) {
-        let mut book = Book::random(&mut random, (2, 14));
+        let mut book = some_book(&mut random, (2, 14));
         book.number = number;
         let (bytes, _) = written(&book);
         let said = info(&bytes, "a book number").map(|info| info.number);
@@ -437,16 +438,17 @@ fn inside_a_ciphertext() {
     let inner = unit_fields(&book, 700, 700, *b"enga", &[0, 1, 7, 8]).concat();
     let close = close_fields(&book, 701, 701).concat();
     let value = [&[1, 2, 3][..], &inner, &close].concat();
-    let head = field(0x10, &[0, 1, b'a', b'b', b'c', b'd']);
+    let [head, ..] = unit_fields(&book, 1, 1, *b"abcd", &[]);
     parts.units[1] = [head, field(0x11, &value), field(0x12, &[0; 16])].concat();
     let bytes = parts.joined();
-    let at = places(&book)[1] + CIPHERTEXT + 3;
+    let start = book.kind.ciphertext_at();
+    let at = places(&book)[1] + start + 3;
     let end = at + inner.len();
     let expected = Clear {
         at,
         from: b"en".to_vec(),
         to: b"ga".to_vec(),
-        ciphertext: at + CIPHERTEXT..at + CIPHERTEXT + 4,
+        ciphertext: at + start..at + start + 4,
         next: end,
     };
     assert_eq!(unit(&bytes, Placed(700, at), "inside"), Ok(expected));
@@ -496,7 +498,7 @@ fn random_damage() {
             random.fill(&mut bytes[from..]);
         }
         info(&bytes, &name).ok();
-        let k = random.one_of(&[0, 1, 2, 3, 4, 65_535, u64::MAX]);
+        let k = random.one_of(&[0, 1, 2, 3, 4, 16_777_215, u64::MAX]);
         let at = match random.below(3) {
             0 => random.below(bytes.len() + 3),
             _ => random.one_of(&places(&book)),

@@ -1,18 +1,16 @@
-//! Units that fetching hands out: those of the vectors' books, of books that the library writes, and of
-//! the longest; and numbers that a book has no unit of.
+//! Units that fetching hands out: those of the vectors' books, and of books of each kind; and numbers that a book
+//! has no unit of. Those of long books are in kinds.rs.
 
 mod common;
 
 use common::checking::check_gives;
-use common::fetching::{
-    fetch_gives, fetched, fetches, of, of_book, refuses, Answer, Which::Walked, ROOM,
-};
-use common::parts::{close_fields, random_book, unit_fields, written};
+use common::fetching::{fetch_gives, fetched, fetches, of, of_book, refuses, Which::Walked, ROOM};
+use common::parts::{books_of_each_kind, random_book, some_book, written};
 use common::writing::unit;
-use reference::book::Book;
+use reference::book::{Book, Kind};
 use reference::cipher::SUITES;
 use reference::random::Random;
-use reference::vectors::book_vectors;
+use reference::vectors::{book_vectors, books_vectors};
 use sealed_book::{raw, Refusal};
 
 const SEED: u64 = 0x4645_5443;
@@ -48,7 +46,7 @@ fn fetches_all(book: &Book, bytes: &[u8], name: &str) {
 #[test]
 fn book_vectors_hold() {
     let (mut units, mut without) = (0, 0);
-    for v in book_vectors() {
+    for v in book_vectors().into_iter().chain(books_vectors()) {
         let name = format!("line {}", v.line);
         let key = v.key[..].try_into().expect("16 bytes");
         if let Ok((count, _)) = v.answer {
@@ -66,24 +64,26 @@ fn book_vectors_hold() {
             without += 1;
         }
     }
-    assert_eq!((units, without), (14, 72));
+    assert_eq!((units, without), (14 + 29, 72 + 67));
 }
 
-/// Known value 8.
+/// Known value 8, as printed, and as the writer makes it.
 #[test]
 fn known_book() {
     let mut random = Random::new(SEED);
-    let book = Book::known(random.bytes());
-    let (bytes, _) = written(&book);
-    fetches_all(&book, &bytes, "known value 8");
-    let mut out = [b'.'; 13];
-    let unit = raw::fetch(&book.key, &bytes, 0, &mut out);
-    let unit = unit.expect("unit 0");
-    assert_eq!((unit.source, unit.target), (5, 6));
-    assert_eq!(&out, b"valveVentil..");
-    let none = raw::fetch(&book.key, &bytes, 1, &mut out);
-    assert_eq!(none, Err(Refusal::NoSuchUnit));
-    assert_eq!(&out, b"valveVentil..");
+    for kind in Kind::ALL {
+        let book = Book::known(kind, random.bytes());
+        let (bytes, _) = written(&book);
+        fetches_all(&book, &bytes, "known value 8");
+        let mut out = [b'.'; 13];
+        let unit = raw::fetch(&book.key, &bytes, 0, &mut out);
+        let unit = unit.expect("unit 0");
+        assert_eq!((unit.source, unit.target), (5, 6));
+        assert_eq!(&out, b"valveVentil..");
+        let none = raw::fetch(&book.key, &bytes, 1, &mut out);
+        assert_eq!(none, Err(Refusal::NoSuchUnit));
+        assert_eq!(&out, b"valveVentil..");
+    }
 }
 
 /// Every length of the source from 1 to 18 with every length of the target from 0 to 18.
@@ -91,10 +91,11 @@ fn known_book() {
 fn every_short_length() {
     let mut random = Random::new(SEED + 1);
     for s in 1..=18 {
-        let mut book = Book::random(&mut random, SUITES[s % 8]);
-        book.units = (0..=18).map(|t| unit(&mut random, s, t)).collect();
-        let (bytes, _) = written(&book);
-        fetches_all(&book, &bytes, &format!("source {s}, seed {:X}", SEED + 1));
+        for mut book in books_of_each_kind(&mut random, SUITES[s % 8]) {
+            book.units = (0..=18).map(|t| unit(&mut random, s, t)).collect();
+            let (bytes, _) = written(&book);
+            fetches_all(&book, &bytes, &format!("source {s}, seed {:X}", SEED + 1));
+        }
     }
 }
 
@@ -124,7 +125,7 @@ fn every_output_length() {
 fn long_segments() {
     let mut random = Random::new(SEED + 3);
     for suite in SUITES {
-        let mut book = Book::random(&mut random, suite);
+        let mut book = some_book(&mut random, suite);
         for (s, t) in [(4_096, 4_096), (1, 4_096), (4_096, 0), (256, 255)] {
             book.units.push(unit(&mut random, s, t));
         }
@@ -173,67 +174,20 @@ fn random_books() {
     }
 }
 
-/// The longest book, and one more unit behind its last one: 13 on the way and at unit k, and 16 only
-/// behind a close that is sealed.
-#[test]
-fn a_full_book() {
-    let mut random = Random::new(SEED + 6);
-    let mut book = Book::random(&mut random, (1, 6));
-    book.units = (0..65_535).map(|_| unit(&mut random, 1, 0)).collect();
-    let (mut bytes, _) = written(&book);
-    let gives = |bytes: &[u8], k: u64, answer: &Answer, name: &str| {
-        fetch_gives(&book.key, bytes, Walked(k), 3, answer, name);
-    };
-    for k in [0, 1, 255, 256, 257, 32_768, 65_533, 65_534] {
-        gives(&bytes, k, &of_book(&book, k), "65,535 units");
-    }
-    for k in [65_535, 65_536, 65_537, 1 << 32, u64::MAX] {
-        gives(&bytes, k, &Err(16), "65,535 units");
-    }
-    let last = bytes.len() - 1;
-    bytes[last] ^= 1;
-    gives(&bytes, 65_534, &of_book(&book, 65_534), "the close's tag");
-    gives(&bytes, 65_535, &Err(8), "the close's tag");
-    gives(&bytes, 65_536, &Err(8), "the close's tag");
-
-    // 13 before all but a malformed head; with 0 no byte is changed
-    let end = bytes.len() - raw::CLOSE_ROOM;
-    bytes.truncate(end);
-    let more = unit_fields(&book, 65_535, 65_535, *b"ende", &[0, 1, 2]);
-    bytes.extend(more.concat());
-    bytes.extend(close_fields(&book, 65_535, 65_535).concat());
-    for (at, change, number) in [
-        (3, 0, 13),
-        (4, 1, 13),
-        (5, 0x20, 13),
-        (9, 1, 13),
-        (11, 1, 13),
-        (12, 1, 13),
-        (0, 1, 14),
-        (2, 1, 14),
-    ] {
-        bytes[end + at] ^= change;
-        for k in [65_534, 65_535, 65_536, u64::MAX] {
-            let answer = of_book(&book, k).map_err(|_| number);
-            gives(&bytes, k, &answer, &format!("byte {at} of one unit more"));
-        }
-        bytes[end + at] ^= change;
-    }
-}
-
 /// A walk past long units, to the places that their lengths give.
 #[test]
 fn behind_long_units() {
     let mut random = Random::new(SEED + 7);
-    let mut book = Book::random(&mut random, (2, 8));
-    for i in 0..24 {
-        let (s, t) = [(4_096, 4_096), (4_096, 4_095), (250, 3), (1, 0)][i % 4];
-        book.units.push(unit(&mut random, s, t));
-    }
-    let (bytes, _) = written(&book);
-    for k in 0..26 {
-        let answer = of_book(&book, k);
-        fetch_gives(&book.key, &bytes, Walked(k), ROOM, &answer, "long units");
+    for mut book in books_of_each_kind(&mut random, (2, 8)) {
+        for i in 0..24 {
+            let (s, t) = [(4_096, 4_096), (4_096, 4_095), (250, 3), (1, 0)][i % 4];
+            book.units.push(unit(&mut random, s, t));
+        }
+        let (bytes, _) = written(&book);
+        for k in 0..26 {
+            let answer = of_book(&book, k);
+            fetch_gives(&book.key, &bytes, Walked(k), ROOM, &answer, "long units");
+        }
     }
 }
 

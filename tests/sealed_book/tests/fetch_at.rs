@@ -9,14 +9,16 @@ use common::fetching::{
     Which::{Placed, Walked},
     ROOM,
 };
-use common::parts::{close_fields, random_book, three_units, unit_fields, written, Parts};
+use common::parts::{
+    books_of_each_kind, close_fields, random_book, three_units, unit_fields, written, Parts,
+};
 use common::spoiled::{spoiled, Cause, Cause::*, CLOSE, UNIT_FRAME};
-use common::spoiling::{bad_openings, damage, some_frames, some_places, TOO_MANY};
+use common::spoiling::{bad_openings, damage, some_frames, some_places, too_many, SOME_NUMBERS};
 use common::writing::unit;
-use reference::book::{field, places, unit_len, Book, Unit, CIPHERTEXT};
+use reference::book::{field, places, Book, Kind, Unit};
 use reference::cipher::{listed, SUITES};
 use reference::random::Random;
-use reference::vectors::book_vectors;
+use reference::vectors::{book_vectors, books_vectors};
 use sealed_book::raw::{self, FIRST_UNIT};
 use sealed_book::Refusal;
 
@@ -40,7 +42,7 @@ fn goes_through(book: &Book, bytes: &[u8], name: &str) {
     };
     assert_eq!(end, Err(Refusal::NoSuchUnit), "{name}");
     assert_eq!(number, book.units.len() as u64, "{name}");
-    assert_eq!(at, bytes.len() - raw::CLOSE_ROOM, "{name}");
+    assert_eq!(at, bytes.len() - book.kind.close_len(), "{name}");
 }
 
 /// Each unit at its place, and the close.
@@ -64,7 +66,7 @@ fn fetches_all(book: &Book, bytes: &[u8], name: &str) {
 #[test]
 fn book_vectors_hold() {
     let mut units = 0;
-    for v in book_vectors() {
+    for v in book_vectors().into_iter().chain(books_vectors()) {
         let name = format!("line {}", v.line);
         let key = v.key[..].try_into().expect("16 bytes");
         match Book::taken_apart(&key, &v.book) {
@@ -79,7 +81,7 @@ fn book_vectors_hold() {
             }
         }
     }
-    assert_eq!(units, 14);
+    assert_eq!(units, 14 + 29);
 }
 
 #[test]
@@ -104,8 +106,8 @@ fn every_set_of_causes() {
     let case = |random: &mut Random, set: &[Cause], name: &str| {
         let mut case = spoiled(random, set);
         if !set.contains(&OpeningFields) {
-            // not one byte between the opening fields and the place is looked at
-            random.fill(&mut case.book[FIRST_UNIT..case.place]);
+            // not one byte between the first, which says the kind, and the place is looked at
+            random.fill(&mut case.book[FIRST_UNIT + 1..case.place]);
         }
         let which = Placed(case.running, case.place);
         fetched(&case.key, &case.book, which, case.out_len, name)
@@ -135,7 +137,7 @@ fn every_place() {
         let places: [usize; 3] = places(&book).try_into().expect("two units");
         let len = bytes.len();
         for at in some_places(len, &places) {
-            for number in [0, 1, 2, 3, 0x1_0000, 1 << 32, u64::MAX] {
+            for number in SOME_NUMBERS {
                 let name = format!("seed {:X}", SEED + 3);
                 let answer = fetched(&book.key, &bytes, Placed(number, at), 20, &name);
                 if at < FIRST_UNIT || at >= len {
@@ -144,7 +146,7 @@ fn every_place() {
                 if let Some(unit) = places.iter().position(|place| *place == at) {
                     let expected = match (unit, number) {
                         _ if unit as u64 == number => of_book(&book, number),
-                        (2, _) | (_, ..=65_534) => Err(15),
+                        (2, _) | (_, ..=16_777_214) => Err(15),
                         _ => Err(13),
                     };
                     assert_eq!(answer, expected, "unit {number} at {at}, {name}");
@@ -156,85 +158,86 @@ fn every_place() {
     }
 }
 
-/// Every number that fits into two bytes, and some that do not: 13 for a unit from 65,535 on, whatever
-/// its header says, and 15 for a close.
+/// Every number that fits into two bytes, and some that do not: 13 for a unit from 16,777,215 on, whatever its
+/// header says, and 15 for a close.
 #[test]
 fn every_number() {
     let mut random = Random::new(SEED + 4);
-    let book = random_book(&mut random, (1, 6), 2, 9);
-    let (bytes, _) = written(&book);
-    let [_, second, close] = places(&book)[..] else {
-        panic!("two units");
-    };
-    let wide = [0x1_0000, 0x1_0001, 0x1_0002, (1 << 32) + 1, u64::MAX];
-    for number in (0..0x1_0000).chain(wide) {
-        let unit = match number {
-            1 => of_book(&book, 1),
-            65_535.. => Err(13),
-            _ => Err(15),
+    for mut book in books_of_each_kind(&mut random, (1, 6)) {
+        book.units = random_book(&mut random, (1, 6), 2, 9).units;
+        let (bytes, _) = written(&book);
+        let gives = |number: u64, at: usize, answer: &Answer, name: &str| {
+            fetch_gives(&book.key, &bytes, Placed(number, at), 20, answer, name);
         };
-        fetch_gives(
-            &book.key,
-            &bytes,
-            Placed(number, second),
-            20,
-            &unit,
-            "a unit",
-        );
-        let end = if number == 2 { Err(16) } else { Err(15) };
-        fetch_gives(
-            &book.key,
-            &bytes,
-            Placed(number, close),
-            20,
-            &end,
-            "the close",
-        );
+        let [_, second, close] = places(&book)[..] else {
+            panic!("two units");
+        };
+        let wide = [0x1_0001, 0x1_0002, 0x100_0001, (1 << 32) + 1, u64::MAX];
+        let limit = [16_777_214, 16_777_215, 16_777_216];
+        for number in (0..=0x1_0000).chain(wide).chain(limit) {
+            let unit = match number {
+                1 => of_book(&book, 1),
+                16_777_215.. => Err(13),
+                _ => Err(15),
+            };
+            gives(number, second, &unit, "a unit");
+            let end = if number == 2 { Err(16) } else { Err(15) };
+            gives(number, close, &end, "the close");
+        }
     }
-    // the last number that a unit can have, and one more
-    for (number, expected) in [(65_534, None), (65_535, Some(13))] {
-        let last = unit_fields(&book, number, number, *b"ende", &[0, 1, 7]).concat();
-        let close = close_fields(&book, number + 1, number + 1).concat();
-        let bytes = [&bytes[..FIRST_UNIT], &last, &close].concat();
-        let answer = fetched(
-            &book.key,
-            &bytes,
-            Placed(number as u64, FIRST_UNIT),
-            1,
-            "the last",
-        );
-        assert_eq!(answer.err(), expected, "{number}");
+}
+
+/// The last number that a unit can have, one more, and the closes of full books. Unit 65,535 of an old book has its
+/// number in two bytes, and is handed out, where a unit 16,777,215 gets 13.
+#[test]
+fn last_numbers() {
+    let mut random = Random::new(SEED + 10);
+    for book in books_of_each_kind(&mut random, (1, 6)) {
+        let opening = book.opening();
+        let most = book.kind.most_units();
+        let more = match book.kind {
+            Kind::Tag10 => None,
+            Kind::Tag14 => Some(13),
+        };
+        for (number, expected) in [(most - 1, None), (most, more)] {
+            let last = unit_fields(&book, number, number, *b"ende", &[0, 1, 7]).concat();
+            let bytes = [&opening[..], &last].concat();
+            let which = Placed(number as u64, FIRST_UNIT);
+            let answer = fetched(&book.key, &bytes, which, 1, "the last");
+            assert_eq!(answer.err(), expected, "{number}");
+        }
+        let close = close_fields(&book, most, most).concat();
+        let bytes = [&opening[..], &close].concat();
+        let refuses = |number: usize, refusal: u32, name: &str| {
+            let which = Placed(number as u64, FIRST_UNIT);
+            refuses(&book.key, &bytes, which, refusal, name);
+        };
+        refuses(most, 16, "a full book's close");
+        let same = most + (1 << (8 * book.kind.number_bytes()));
+        refuses(same, 15, "a number with its bytes");
+        // a close has no limit but its bytes
+        let count = (1 << (8 * book.kind.number_bytes())) - 1;
+        let close = close_fields(&book, count, count).concat();
+        let bytes = [&opening[..], &close].concat();
+        let which = Placed(count as u64, FIRST_UNIT);
+        self::refuses(&book.key, &bytes, which, 16, "all bits set");
     }
-    let close = close_fields(&book, 65_535, 65_535).concat();
-    let bytes = [&bytes[..FIRST_UNIT], &close].concat();
-    refuses(
-        &book.key,
-        &bytes,
-        Placed(65_535, FIRST_UNIT),
-        16,
-        "a full book's close",
-    );
-    refuses(
-        &book.key,
-        &bytes,
-        Placed(0x1_FFFF, FIRST_UNIT),
-        15,
-        "a number with its two bytes",
-    );
 }
 
 #[test]
 fn too_many_units() {
     let mut random = Random::new(SEED + 5);
-    let book = random_book(&mut random, (2, 8), 1, 9);
-    let (bytes, _) = written(&book);
-    for (at, byte, number) in TOO_MANY {
-        let mut changed = bytes.clone();
-        changed[at] = byte;
-        for unit in [65_535, u64::MAX] {
-            let which = Placed(unit, FIRST_UNIT);
-            refuses(&book.key, &changed, which, number, "a unit");
-            refuses(&book.key[1..], &changed, which, 2, "a unit");
+    for mut book in books_of_each_kind(&mut random, (2, 8)) {
+        book.units = random_book(&mut random, (2, 8), 1, 9).units;
+        let (bytes, _) = written(&book);
+        for (at, byte, number) in too_many(book.kind) {
+            let mut changed = bytes.clone();
+            changed[at] = byte;
+            for unit in [16_777_215, 16_777_216, u64::MAX] {
+                let which = Placed(unit, FIRST_UNIT);
+                refuses(&book.key, &changed, which, number, "a unit");
+                refuses(&book.key[1..], &changed, which, 2, "a unit");
+            }
         }
     }
 }
@@ -249,7 +252,7 @@ fn opening_fields_first() {
         0,
         3,
         16,
-        bytes.len() - raw::CLOSE_ROOM,
+        bytes.len() - book.kind.close_len(),
         bytes.len(),
         usize::MAX,
     ] {
@@ -277,23 +280,34 @@ fn opening_fields_first() {
 fn inside_the_opening_fields() {
     let mut random = Random::new(SEED + 7);
     // a close with the count 0, and its tag in what follows; the same with the count 5
-    for (number, at, unit, refusal) in [
-        (0x2000_0200_0012_0010, 3, 0, 8),
-        (0x2000_0200_0012_0010, 3, 1, 15),
-        (0x2000_0200_0512_0010, 3, 5, 8),
-        (0x2000_0200_0012_0011, 3, 0, 14),
+    for (kind, number, at, unit, refusal) in [
+        (Kind::Tag10, 0x2000_0200_0012_0010, 3, 0, 8),
+        (Kind::Tag10, 0x2000_0200_0012_0010, 3, 1, 15),
+        (Kind::Tag10, 0x2000_0200_0512_0010, 3, 5, 8),
+        (Kind::Tag10, 0x2000_0200_0012_0011, 3, 0, 14),
+        (Kind::Tag14, 0x2000_0200_0012_0010, 3, 0, 14),
         // a unit's header, whose last letter is field 02's tag
-        (0x1000_0600_0065_6E64, 3, 0, 11),
-        (0x1000_0600_0065_6E64, 3, 1, 15),
-        (0x1000_0600_0065_6E64, 3, 65_535, 13),
-        (0x4110_0006_0003_6161, 4, 3, 11),
-        (0x4110_0006_0003_6161, 4, 0, 15),
-        (0x4110_0007_0003_6161, 4, 3, 14),
+        (Kind::Tag10, 0x1000_0600_0065_6E64, 3, 0, 11),
+        (Kind::Tag10, 0x1000_0600_0065_6E64, 3, 1, 15),
+        (Kind::Tag10, 0x1000_0600_0065_6E64, 3, 16_777_215, 13),
+        (Kind::Tag10, 0x4110_0006_0003_6161, 4, 3, 11),
+        (Kind::Tag10, 0x4110_0006_0003_6161, 4, 0, 15),
+        (Kind::Tag10, 0x4110_0007_0003_6161, 4, 3, 14),
+        (Kind::Tag14, 0x1000_0600_0065_6E64, 3, 0, 14),
+        // a wide one's, whose codes are 02 00 and 02 and the cipher
+        (Kind::Tag14, 0x4114_0008_0000_0003, 4, 3, 11),
+        (Kind::Tag14, 0x4114_0008_0000_0003, 4, 0, 15),
+        (Kind::Tag14, 0x4114_0008_0000_0003, 4, 16_777_215, 13),
+        (Kind::Tag14, 0x4114_0006_0000_0003, 4, 3, 14),
+        (Kind::Tag10, 0x4114_0008_0000_0003, 4, 3, 14),
+        // a wide close, whose field 12 is field 02
+        (Kind::Tag14, 0x4121_0004_0000_0003, 4, 3, 14),
     ] {
         let mut book = random_book(&mut random, (1, 6), 1, 9);
+        book.kind = kind;
         book.number = number;
         let (bytes, _) = written(&book);
-        let name = format!("book {number:X}");
+        let name = format!("{kind:?}, book {number:X}");
         refuses(&book.key, &bytes, Placed(unit, at), refusal, &name);
         fetches(
             &book.key,
@@ -313,6 +327,7 @@ fn inside_a_ciphertext() {
     for suite in SUITES {
         let book = three_units(&mut random, suite);
         let parts = Parts::of(&book);
+        let start = book.kind.ciphertext_at();
         let hidden = Unit {
             from: *b"en",
             to: *b"de",
@@ -324,16 +339,16 @@ fn inside_a_ciphertext() {
         let value = [&random.bytes::<5>()[..], &inner, &close, &[0x12, 0, 16]].concat();
         let mut changed = parts.clone();
         changed.units[1] = [
-            &parts.units[1][..9],
+            &parts.units[1][..start - 3],
             &field(0x11, &value),
             &field(0x12, &random.bytes::<16>()),
         ]
         .concat();
         let bytes = changed.joined();
-        let at = places(&book)[1] + CIPHERTEXT + 5;
+        let at = places(&book)[1] + start + 5;
         fetches(&book.key, &bytes, Placed(700, at), &hidden, "inside");
         refuses(&book.key, &bytes, Placed(701, at), 15, "inside");
-        let end = at + unit_len(&hidden);
+        let end = at + hidden.len(book.kind);
         refuses(
             &book.key,
             &bytes,
@@ -343,7 +358,7 @@ fn inside_a_ciphertext() {
         );
         refuses(
             &book.key,
-            &bytes[..end + raw::CLOSE_ROOM],
+            &bytes[..end + close.len()],
             Placed(701, end),
             16,
             "none behind it",
@@ -387,7 +402,7 @@ fn random_places() {
         let frames = some_frames(&mut random, &book);
         for bytes in [&bytes, &frames] {
             let at = random.below(bytes.len() + 3);
-            let number = random.one_of(&[0, 1, 2, 3, 65_535]);
+            let number = random.one_of(&[0, 1, 2, 3, 16_777_215]);
             count(&fetched(
                 &book.key,
                 bytes,

@@ -8,25 +8,27 @@ use common::fetching::{
     fetch_gives, fetched, fetches, of_book, refuses, Answer, Which::Walked, ROOM,
 };
 use common::parts::{
-    close_fields, random_book, renumber, three_units, unit_fields, written, Parts,
+    books_of_each_kind, close_fields, number_in, random_book, renumber, some_book, three_units,
+    unit_fields, written, Parts,
 };
 use common::spoiling::{damage, some_frames};
 use common::swapped;
 use common::writing::unit;
-use reference::book::{places, unit_len, Book, Unit, CIPHERTEXT};
+use reference::book::{places, Book, Kind, Unit};
 use reference::cipher::SUITES;
 use reference::random::Random;
-use sealed_book::raw::{check, fetch, CLOSE_ROOM};
+use sealed_book::raw::{check, fetch};
 use sealed_book::Refusal;
 
 const SEED: u64 = 0x4644_414D;
 
-/// A book of each suite with no unit, one, or two, all short, and its bytes.
+/// A book of each suite with no unit, one, or two, all short, and its bytes; of each kind four.
 fn small_books(random: &mut Random) -> Vec<(Book, Vec<u8>)> {
     let books = SUITES.into_iter().enumerate();
     books
         .map(|(i, suite)| {
-            let book = random_book(random, suite, (i + 2) % 3, 8);
+            let mut book = random_book(random, suite, (i + 2) % 3, 8);
+            book.kind = Kind::ALL[i % 2];
             let (bytes, _) = written(&book);
             (book, bytes)
         })
@@ -76,7 +78,7 @@ fn changed_bytes() {
         let (places, units) = (places(&book), book.units.len());
         for at in 0..bytes.len() {
             let changes = [0x01, 0x20, 0x80, 0xFF].map(|change| bytes[at] ^ change);
-            let tags = [0x01, 0x02, 0x10, 0x11, 0x12, 0x20];
+            let tags = [0x01, 0x02, 0x10, 0x11, 0x12, 0x14, 0x20, 0x21];
             let start = places.iter().rposition(|place| *place <= at);
             for byte in changes.into_iter().chain(tags) {
                 if byte == bytes[at] {
@@ -92,7 +94,7 @@ fn changed_bytes() {
                         Some(part) if k < part => assert_eq!(*answer, expected, "{name}"),
                         Some(part) if k > part && part < units => {
                             let end = places[part + 1];
-                            let value = places[part] + CIPHERTEXT..end - 19;
+                            let value = places[part] + book.kind.ciphertext_at()..end - 19;
                             if value.contains(&at) || (end - 16..end).contains(&at) {
                                 assert_eq!(*answer, expected, "{name}");
                             }
@@ -109,19 +111,20 @@ fn changed_bytes() {
 #[test]
 fn every_value_of_each_byte() {
     let mut random = Random::new(SEED + 1);
-    let mut book = Book::random(&mut random, (1, 6));
-    book.units = vec![unit(&mut random, 1, 0), unit(&mut random, 2, 1)];
-    let (bytes, _) = written(&book);
-    let mut damaged = bytes.clone();
-    for at in 0..bytes.len() {
-        for byte in 0..=255 {
-            damaged[at] = byte;
-            let k = random.below(4) as u64;
-            let name = format!("byte {at} {byte:02X}, seed {:X}", SEED + 1);
-            let answer = fetched(&book.key, &damaged, Walked(k), 3, &name);
-            assert!(answer.is_err() || answer == of_book(&book, k), "{name}");
+    for mut book in books_of_each_kind(&mut random, (1, 6)) {
+        book.units = vec![unit(&mut random, 1, 0), unit(&mut random, 2, 1)];
+        let (bytes, _) = written(&book);
+        let mut damaged = bytes.clone();
+        for at in 0..bytes.len() {
+            for byte in 0..=255 {
+                damaged[at] = byte;
+                let k = random.below(4) as u64;
+                let name = format!("byte {at} {byte:02X}, seed {:X}", SEED + 1);
+                let answer = fetched(&book.key, &damaged, Walked(k), 3, &name);
+                assert!(answer.is_err() || answer == of_book(&book, k), "{name}");
+            }
+            damaged[at] = bytes[at];
         }
-        damaged[at] = bytes[at];
     }
 }
 
@@ -203,12 +206,21 @@ fn bytes_taken_away_and_put_in() {
                 );
             };
             assert_damaged(&[start, &rest[1..]].concat(), &format!("without byte {at}"));
-            let byte = random.one_of(&[0x00, 0x10, 0x20, 0xFF, bytes[at]]);
+            let mut byte = random.one_of(&[0x00, 0x10, 0x14, 0x20, 0x21, 0xFF, bytes[at]]);
+            if byte == bytes[at].wrapping_add(1) {
+                // as the length of a ciphertext it would make up for itself, and no seal is looked at
+                byte = bytes[at];
+            }
             let name = format!("{byte:02X} put in at {at}");
             assert_damaged(&[start, &[byte], rest].concat(), &name);
         }
-        let close = &bytes[bytes.len() - CLOSE_ROOM..];
-        for more in [&[0][..], &[0x10], &[0x20], &[0xFF; 24], close, &bytes] {
+        let close = &bytes[bytes.len() - book.kind.close_len()..];
+        let tags = [[0x10], [0x14], [0x20], [0x21]];
+        let tags = tags.iter().map(|tag| &tag[..]);
+        for more in [&[0][..], &[0xFF; 24], close, &bytes]
+            .into_iter()
+            .chain(tags)
+        {
             let name = format!("{} bytes left over", more.len());
             let answers = fetch_each(&book, &[&bytes, more].concat(), &name);
             assert_eq!(answers, refused_from(&book, units, 14), "{name}");
@@ -282,9 +294,10 @@ fn wrong_count() {
     for suite in SUITES {
         let book = three_units(&mut random, suite);
         let parts = Parts::of(&book);
+        let count_end = 3 + book.kind.number_bytes();
         for count in [0, 1, 2, 4, 0x103, 0x300, 0xFFFF] {
             let mut changed = parts.clone();
-            changed.close[3..5].copy_from_slice(&(count as u16).to_be_bytes());
+            changed.close[3..count_end].copy_from_slice(&number_in(book.kind, count));
             let answers = fetch_each(&book, &changed.joined(), "count changed");
             assert_eq!(answers, refused_from(&book, 3, 15));
             changed.close = close_fields(&book, count, count).concat();
@@ -295,7 +308,7 @@ fn wrong_count() {
                 let answers = fetch_each(&book, &changed.joined(), "a book of the first units");
                 assert_eq!(answers, refused_from(&book, count, 16));
                 changed.close = parts.close.clone();
-                changed.close[3..5].copy_from_slice(&(count as u16).to_be_bytes());
+                changed.close[3..count_end].copy_from_slice(&number_in(book.kind, count));
                 let answers = fetch_each(&book, &changed.joined(), "units dropped, count changed");
                 assert_eq!(answers, refused_from(&book, count, 8));
             }
@@ -312,6 +325,7 @@ fn parts_of_another_book() {
         let parts = Parts::of(&book);
         let (cipher, steps) = SUITES[(i + 3) % 8];
         let mut others = vec![three_units(&mut random, suite), book.clone(), book.clone()];
+        others[0].kind = book.kind;
         others[1].number ^= 1;
         others[2].key[15] ^= 1;
         others.push(Book {
@@ -348,23 +362,24 @@ fn parts_of_another_book() {
 fn sealed_parts_exchanged() {
     let mut random = Random::new(SEED + 9);
     for suite in SUITES {
-        let mut book = Book::random(&mut random, suite);
+        let mut book = some_book(&mut random, suite);
         book.units = (0..3).map(|_| unit(&mut random, 40, 38)).collect();
         let parts = Parts::of(&book);
+        let start = book.kind.ciphertext_at();
         for (one, other) in [(0, 1), (1, 3), (0, 4)] {
             let mut changed = parts.clone();
-            let blocks = swapped(&parts.units[1][CIPHERTEXT..], one, other);
-            changed.units[1][CIPHERTEXT..].copy_from_slice(&blocks);
+            let blocks = swapped(&parts.units[1][start..], one, other);
+            changed.units[1][start..].copy_from_slice(&blocks);
             let answers = fetch_each(&book, &changed.joined(), "blocks of a unit");
             assert_eq!(answers, refused_at(&book, &[(1, 8)]));
         }
-        let tag = CIPHERTEXT + 80 + 3;
+        let tag = start + 80 + 3;
         for (range, name) in [
-            (CIPHERTEXT..CIPHERTEXT + 16, "the first block"),
-            (CIPHERTEXT + 64..CIPHERTEXT + 80, "the last block"),
-            (CIPHERTEXT..CIPHERTEXT + 80, "the ciphertext"),
+            (start..start + 16, "the first block"),
+            (start + 64..start + 80, "the last block"),
+            (start..start + 80, "the ciphertext"),
             (tag..tag + 16, "the tag"),
-            (CIPHERTEXT..tag + 16, "ciphertext and tag"),
+            (start..tag + 16, "ciphertext and tag"),
         ] {
             let mut changed = parts.clone();
             changed.units[0][range.clone()].copy_from_slice(&parts.units[2][range.clone()]);
@@ -373,8 +388,9 @@ fn sealed_parts_exchanged() {
             assert_eq!(answers, refused_at(&book, &[(0, 8), (2, 8)]), "{name}");
         }
         let mut changed = parts.clone();
-        changed.close[8..].copy_from_slice(&parts.units[2][tag..]);
-        changed.units[2][tag..].copy_from_slice(&parts.close[8..]);
+        let close_tag = book.kind.close_len() - 16;
+        changed.close[close_tag..].copy_from_slice(&parts.units[2][tag..]);
+        changed.units[2][tag..].copy_from_slice(&parts.close[close_tag..]);
         let answers = fetch_each(&book, &changed.joined(), "tags of a unit and the close");
         assert_eq!(answers, refused_from(&book, 2, 8));
     }
@@ -392,13 +408,19 @@ fn sealed_for_another_place() {
         let Unit { from, to, .. } = book.units[1];
         let codes = [from[0], from[1], to[0], to[1]];
         let mut exchanged = unit(1, 1, codes);
-        exchanged[0][5..].rotate_left(2);
+        let end = exchanged[0].len();
+        exchanged[0][end - 4..].rotate_left(2);
         for (unit, number, name) in [
             (unit(0, 1, codes), 8, "the nonce of another unit"),
             (
                 unit(0x1_0001, 1, codes),
                 8,
                 "a nonce with the same two bytes",
+            ),
+            (
+                unit(0x100_0001, 1, codes),
+                8,
+                "a nonce with the same three bytes",
             ),
             (unit(1, 2, codes), 15, "the number of another unit"),
             (exchanged, 8, "codes exchanged after the sealing"),
@@ -422,7 +444,7 @@ fn nothing_of_a_text_that_is_not_accepted() {
     let mut random = Random::new(SEED + 11);
     for suite in SUITES {
         for (s, t) in [(1, 0), (14, 0), (100, 57), (4_096, 4_096)] {
-            let mut book = Book::random(&mut random, suite);
+            let mut book = some_book(&mut random, suite);
             let long = Unit {
                 from: *b"en",
                 to: *b"de",
@@ -431,13 +453,14 @@ fn nothing_of_a_text_that_is_not_accepted() {
             };
             book.units = vec![unit(&mut random, 3, 2), long];
             let (bytes, _) = written(&book);
-            let (start, len) = (places(&book)[1], unit_len(&book.units[1]));
-            let end = start + len;
-            let ciphertext = start + CIPHERTEXT;
+            let [_, start, end] = places(&book)[..] else {
+                panic!("two units");
+            };
+            let ciphertext = start + book.kind.ciphertext_at();
             for at in [
                 3,
                 10,
-                start + 5,
+                ciphertext - 7,
                 ciphertext,
                 ciphertext + 2,
                 ciphertext + random.below(s + t + 2),
@@ -522,7 +545,7 @@ fn random_frames() {
     let mut counts = [0; 17];
     for case in 0..4_000 {
         let suite = random.one_of(&SUITES);
-        let book = Book::random(&mut random, suite);
+        let book = some_book(&mut random, suite);
         let name = format!("case {case}, seed {:X}", SEED + 13);
         let mut bytes = some_frames(&mut random, &book);
         if case % 20 == 0 {

@@ -7,14 +7,15 @@ use common::causes::{first_is_given, sets, small_sets, Cause as _};
 use common::fetching::{
     fetch_gives, fetched, fetches, of_book, refuses, Answer, Which::Walked, ROOM,
 };
-use common::parts::{close_fields, random_book, unit_fields, written, Parts};
+use common::parts::{
+    books_of_each_kind, close_fields, number_in, random_book, unit_fields, written, Parts,
+};
 use common::spoiled::{spoiled, Cause, Cause::*, CLOSE, UNIT_FRAME, WALK};
 use common::spoiling::{text, LONG_TEXTS};
 use common::{codes_with_each_byte, UNLISTED};
-use reference::book::{places, Book, Unit};
+use reference::book::{places, Book, Kind, Unit};
 use reference::cipher::{listed, SUITES};
 use reference::random::Random;
-use sealed_book::raw::CLOSE_ROOM;
 
 const SEED: u64 = 0x4652_4546;
 
@@ -164,83 +165,108 @@ fn every_byte_in_a_code() {
 
 /// Where each field begins and ends: those before the close in a book with a unit of 11 bytes, and then
 /// those of the close.
-const FIELDS: [(usize, usize); 7] = [
-    (0, 11),
-    (11, 16),
-    (16, 25),
-    (25, 41),
-    (41, 60),
-    (60, 65),
-    (65, 84),
-];
+fn fields_of(kind: Kind) -> [(usize, usize); 7] {
+    match kind {
+        Kind::Tag10 => [
+            (0, 11),
+            (11, 16),
+            (16, 25),
+            (25, 41),
+            (41, 60),
+            (60, 65),
+            (65, 84),
+        ],
+        Kind::Tag14 => [
+            (0, 11),
+            (11, 16),
+            (16, 27),
+            (27, 43),
+            (43, 62),
+            (62, 69),
+            (69, 88),
+        ],
+    }
+}
 
 /// Every tag and many lengths in the head of each field: 14 at the unit, and behind it also for the
 /// close's fields.
 #[test]
 fn every_field_head() {
     let mut random = Random::new(SEED + 7);
-    let book = Book::known(random.bytes());
-    let (bytes, _) = written(&book);
     let lengths = (0..=300)
         .chain(8_180..=8_200)
         .chain((1..=256).map(|n| 256 * n - 1));
     let lengths: Vec<u16> = lengths.map(|len| len as u16).collect();
-    for (at, end) in FIELDS {
-        let of_close = at >= 60;
-        let gives = |bytes: &[u8], name: &str| match of_close {
-            false => refuses(&book.key, bytes, Walked(0), 14, name),
-            true => fetches(&book.key, bytes, Walked(0), &book.units[0], name),
-        };
-        let mut changed = bytes.clone();
-        for len in &lengths {
-            let name = format!("field at {at}, length {len}");
-            changed[at + 1..at + 3].copy_from_slice(&len.to_be_bytes());
-            // a ciphertext that ends before the close's tag is framed, and not that tag's
-            if (at, *len) == (25, 37) {
-                refuses(&book.key, &changed, Walked(0), 8, &name);
-                refuses(&book.key, &changed, Walked(1), 14, &name);
-            } else if usize::from(*len) != end - at - 3 {
+    for kind in Kind::ALL {
+        let book = Book::known(kind, random.bytes());
+        let (bytes, _) = written(&book);
+        let fields = fields_of(kind);
+        for (at, end) in fields {
+            let of_close = at >= fields[5].0;
+            let gives = |bytes: &[u8], name: &str| match of_close {
+                false => refuses(&book.key, bytes, Walked(0), 14, name),
+                true => fetches(&book.key, bytes, Walked(0), &book.units[0], name),
+            };
+            let mut changed = bytes.clone();
+            for len in &lengths {
+                let name = format!("field at {at}, length {len}");
+                changed[at + 1..at + 3].copy_from_slice(&len.to_be_bytes());
+                // a ciphertext that ends before the close's tag is framed, and not that tag's
+                let longer = fields[5].1 - fields[3].0 - 3;
+                if at == fields[3].0 && usize::from(*len) == longer {
+                    refuses(&book.key, &changed, Walked(0), 8, &name);
+                    refuses(&book.key, &changed, Walked(1), 14, &name);
+                } else if usize::from(*len) != end - at - 3 {
+                    gives(&changed, &name);
+                    refuses(&book.key, &changed, Walked(1), 14, &name);
+                }
+            }
+            let mut changed = bytes.clone();
+            for tag in (0..=255).filter(|tag| *tag != bytes[at]) {
+                let name = format!("field at {at}, tag {tag:02X}");
+                changed[at] = tag;
                 gives(&changed, &name);
                 refuses(&book.key, &changed, Walked(1), 14, &name);
             }
         }
-        let mut changed = bytes.clone();
-        for tag in (0..=255).filter(|tag| *tag != bytes[at]) {
-            let name = format!("field at {at}, tag {tag:02X}");
-            changed[at] = tag;
-            gives(&changed, &name);
-            refuses(&book.key, &changed, Walked(1), 14, &name);
-        }
     }
 }
 
-/// Every number in a unit's head, at the unit and in the walk, and every count in the close's.
+/// Every number of two bytes in a unit's head, at the unit and in the walk, and every count in the close's; and of
+/// a wide one the same in its upper two.
 #[test]
 fn every_number() {
     let mut random = Random::new(SEED + 8);
-    let book = random_book(&mut random, (1, 6), 2, 3);
-    let (bytes, _) = written(&book);
-    let [first, second, close] = places(&book)[..] else {
-        panic!("two units");
-    };
-    for (running, at, ks) in [
-        (0, first, &[0, 1, 2][..]),
-        (1, second, &[1, 2]),
-        (2, close, &[2, u64::MAX]),
-    ] {
-        let mut changed = bytes.clone();
-        for number in (0..=65_535u16).filter(|number| *number != running) {
-            changed[at + 3..at + 5].copy_from_slice(&number.to_be_bytes());
-            let k = ks[usize::from(number) % ks.len()];
-            let name = format!("{number} for {running}");
-            fetch_gives(&book.key, &changed, Walked(k), 9, &Err(15), &name);
-            if number < 300 {
-                for k in ks {
-                    refuses(&book.key, &changed, Walked(*k), 15, &name);
-                }
-                if let Some(before) = ks[0].checked_sub(1) {
-                    let unit = &book.units[before as usize];
-                    fetches(&book.key, &changed, Walked(before), unit, &name);
+    for mut book in books_of_each_kind(&mut random, (1, 6)) {
+        book.units = random_book(&mut random, (1, 6), 2, 3).units;
+        let kind = book.kind;
+        let (bytes, _) = written(&book);
+        let [first, second, close] = places(&book)[..] else {
+            panic!("two units");
+        };
+        for (running, at, ks) in [
+            (0, first, &[0, 1, 2][..]),
+            (1, second, &[1, 2]),
+            (2, close, &[2, u64::MAX]),
+        ] {
+            let mut changed = bytes.clone();
+            let upper = (1..=65_535).map(|number| number << 16 | running);
+            let upper = upper.filter(|_| kind == Kind::Tag14);
+            let numbers = (0..=65_535).filter(|number| *number != running);
+            for number in numbers.chain(upper) {
+                let end = at + 3 + kind.number_bytes();
+                changed[at + 3..end].copy_from_slice(&number_in(kind, number));
+                let k = ks[number % ks.len()];
+                let name = format!("{number} for {running}");
+                fetch_gives(&book.key, &changed, Walked(k), 9, &Err(15), &name);
+                if number < 300 {
+                    for k in ks {
+                        refuses(&book.key, &changed, Walked(*k), 15, &name);
+                    }
+                    if let Some(before) = ks[0].checked_sub(1) {
+                        let unit = &book.units[before as usize];
+                        fetches(&book.key, &changed, Walked(before), unit, &name);
+                    }
                 }
             }
         }
@@ -308,14 +334,19 @@ fn long_texts() {
     }
 }
 
-/// Every byte behind the opening fields and behind a unit: a close has to begin with 20, a unit with 10.
+/// Every byte behind the opening fields and behind a unit: a close has to begin with 20 or 21, a unit with 10 or
+/// 14, as its kind says.
 #[test]
 fn every_next_byte() {
     let mut random = Random::new(SEED + 11);
-    for units in [0, 1] {
-        let book = random_book(&mut random, (1, 6), units, 20);
+    for (units, kind) in [0, 1]
+        .into_iter()
+        .flat_map(|n| Kind::ALL.map(|kind| (n, kind)))
+    {
+        let mut book = random_book(&mut random, (1, 6), units, 20);
+        book.kind = kind;
         let (whole, _) = written(&book);
-        let (start, close) = whole.split_at(whole.len() - CLOSE_ROOM);
+        let (start, close) = whole.split_at(whole.len() - kind.close_len());
         for k in [units as u64, 7] {
             for byte in 0..=255 {
                 let behind = [start, &[byte]].concat();
@@ -327,7 +358,7 @@ fn every_next_byte() {
                     &format!("{byte:02X} alone"),
                 );
                 let as_close = [start, &[byte], &close[1..]].concat();
-                let number = if byte == 0x20 { 16 } else { 14 };
+                let number = if byte == kind.close_tag() { 16 } else { 14 };
                 let name = format!("{byte:02X} and a close's rest");
                 refuses(&book.key, &as_close, Walked(k), number, &name);
             }

@@ -1,5 +1,5 @@
-//! Figures in the documents against where they come from: versions, stack, refusals and their orders, and quotients. Each
-//! test prints all places that fail, with file and line.
+//! Figures in the documents against where they come from: versions, stack, refusals and their orders, quotients, limits, and
+//! the receipt that is shown. Each test prints all places that fail, with file and line.
 
 mod common;
 
@@ -658,4 +658,83 @@ fn limits() {
     let failures = due.iter().filter(|due| !text.contains(*due));
     let failures = failures.map(|due| readme.at(1, format!("does not say \"{due}\"")));
     assert_none(&failures.collect::<Vec<_>>());
+}
+
+/// The lines of a file that begin so, without blanks before.
+fn lines_with<'a>(source: &'a Source, before: &str) -> Vec<(usize, &'a str)> {
+    let lines = source.lines();
+    lines
+        .filter(|(_, text)| text.trim_start().starts_with(before))
+        .collect()
+}
+
+/// The limit of units, wherever refusals 9 and 13 are told: in the table and the orders, in the header's text, and in the
+/// crate for Rust.
+#[test]
+fn limit_of_units() {
+    let document = Source::read("docs/REFUSALS.md");
+    let header = Source::read("include/sealed_book.h");
+    let refusal = Source::read("rust/src/refusal.rs");
+    let limit = grouped(raw::UNITS_MAX as usize);
+    let mut failures = Vec::new();
+    for (source, before, times) in [
+        (&document, "| 9 | `SB_WRITER_INVALID`", 1),
+        (&document, "| 13 | `SB_TOO_MANY_UNITS`", 1),
+        (&document, "2. **13** the number that was asked for is", 2),
+        (&document, "- **13** has one limit", 1),
+        (&header, "16,777,215 or a call total", 1),
+        (&header, "#define SB_TOO_MANY_UNITS", 1),
+        (&header, "case SB_TOO_MANY_UNITS", 1),
+        (&refusal, "/// The writer has an unlisted suite", 1),
+        (&refusal, "TooManyUnits =>", 1),
+    ] {
+        let lines = lines_with(source, before);
+        if lines.len() != times {
+            let what = format!("{} lines begin with \"{before}\", of {times}", lines.len());
+            failures.push(source.at(1, what));
+        }
+        let wrong = lines.iter().filter(|(_, text)| !text.contains(&limit));
+        failures.extend(wrong.map(|(line, _)| source.at(*line, format!("does not say {limit}"))));
+    }
+    assert_none(&failures);
+}
+
+/// The receipt of known value 8, wherever it is shown, is that of the book as it is written: "here (88 bytes, 7 calls)".
+#[test]
+fn receipt_shown() {
+    assert_eq!(raw::book_room(1, 5 + 6), 88);
+    let mut failures = Vec::new();
+    for (name, due) in [
+        ("README.md", "the whole receipt, here 88, 1, 7:"),
+        ("README.md", "-eq 88 && cat"),
+        ("docs/SECURITY.md", "-eq 88 && cat"),
+        ("include/sealed_book.h", "\"bytes=88 units=1 calls=7\""),
+        ("rust/src/receipt.rs", "`bytes=88 units=1 calls=7`"),
+        (
+            "rust/src/receipt.rs",
+            "assert_eq!(mail, \"bytes=88 units=1 calls=7\")",
+        ),
+    ] {
+        let source = Source::read(name);
+        if !source.text.contains(due) {
+            failures.push(source.at(1, format!("does not say {due}")));
+        }
+        let others = ["-eq ", "bytes="].map(|before| other_numbers(&source, before, "88"));
+        failures.extend(others.concat());
+    }
+    assert_none(&failures);
+}
+
+/// Where another number stands behind these words than the one that is due.
+fn other_numbers(source: &Source, before: &str, due: &str) -> Vec<String> {
+    let mut failures = Vec::new();
+    for (line, text) in source.lines() {
+        for behind in text.split(before).skip(1) {
+            let digits: String = behind.chars().take_while(char::is_ascii_digit).collect();
+            if !digits.is_empty() && digits != due && behind.contains("units=1") {
+                failures.push(source.at(line, format!("has {before}{digits}")));
+            }
+        }
+    }
+    failures
 }

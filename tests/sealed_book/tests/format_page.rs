@@ -1,6 +1,6 @@
 //! The page on the file format, docs/FORMAT.md, against the second implementation, the library and the vectors: the
-//! worked example, the tables of the ciphers, and the longer seal. Each test prints all places that fail, with file and
-//! line.
+//! worked examples, the layout of each kind, the tables of the ciphers, and the longer seal. Each test prints all places
+//! that fail, with file and line.
 
 mod common;
 
@@ -8,7 +8,7 @@ use std::collections::BTreeSet;
 use std::ops::Range;
 
 use common::document::{all, assert_none, code, Document, Part, Placed, Table};
-use reference::book::{places, Book, CIPHERTEXT};
+use reference::book::{places, Book, Kind};
 use reference::boxes::{self, times};
 use reference::cipher::{encipher, SUITES};
 use reference::sealing::{assembled, calls, tweak, Place};
@@ -62,30 +62,33 @@ struct Example {
     calls: u64,
 }
 
-/// The bytes that the second implementation's writer leaves.
+/// The bytes that the second implementation's writer of the book's kind leaves.
 fn written(book: &Book, len: usize) -> Vec<u8> {
     let mut buffer = vec![0; len];
     let (mut writer, mut answer) =
         start(book.cipher, book.steps, &book.key, book.number, &mut buffer);
     for unit in &book.units {
         assert_eq!(answer, Ok(()));
-        (writer, answer) = writer.add(&mut buffer, unit.from, unit.to, &unit.source, &unit.target);
+        let (from, to) = (unit.from, unit.to);
+        (writer, answer) =
+            writer.add_of(book.kind, &mut buffer, from, to, &unit.source, &unit.target);
     }
     assert_eq!(answer, Ok(()));
-    (writer, answer) = writer.close(&mut buffer);
+    (writer, answer) = writer.close_of(book.kind, &mut buffer);
     assert_eq!((answer, writer.place), (Ok(()), len as u64));
     buffer
 }
 
-/// The sealings of a book of the first kind. "The nonce is the book number and the unit number in 4 bytes (the count, at
-/// the close). The header sealed along is fields 01, 02 and 10 (25 bytes) or 20 (21 bytes)."
+/// The sealings of a book. "The nonce is the book number and the unit number in 4 bytes (the count, at the close). The
+/// header sealed along is fields 01, 02 and 10 (25 bytes) or 20 (21 bytes)", or the fields of another kind.
 fn sealings(book: &Book, bytes: &[u8]) -> Vec<Sealing> {
     let sealing = |(number, at): (usize, usize)| {
         let unit = book.units.get(number);
-        let field = if unit.is_some() { 9 } else { 5 };
+        // tag and length, the number, and of a unit two codes
+        let field = 3 + book.kind.number_bytes() + unit.map_or(0, |_| 4);
         let text = unit.map_or_else(Vec::new, |unit| unit.text());
         // in front of the tag, and of a ciphertext, stand a field's tag and length
-        let ciphertext = at + unit.map_or(field, |_| CIPHERTEXT);
+        let ciphertext = at + unit.map_or(field, |_| book.kind.ciphertext_at());
         Sealing {
             nonce: [
                 &book.number.to_be_bytes()[..],
@@ -101,10 +104,15 @@ fn sealings(book: &Book, bytes: &[u8]) -> Vec<Sealing> {
     places(book).into_iter().enumerate().map(sealing).collect()
 }
 
-/// Known value 8: "Book 7, Scream 10 steps, .. with s 5, t 6 and a close it has 84 bytes, 7 calls."
-fn known_value_8(key: Block) -> Example {
-    let book = Book::known(key);
-    let bytes = written(&book, 84);
+/// Known value 8: "Book 7, Scream 10 steps, .. with s 5, t 6 and a close it has 84 bytes, 7 calls", as it is printed, of
+/// kind 10; "case 8 follow the fields that the writer makes, here (88 bytes, 7 calls)".
+fn known_value_8(kind: Kind, key: Block) -> Example {
+    let book = Book::known(kind, key);
+    let len = match kind {
+        Kind::Tag10 => 84,
+        Kind::Tag14 => 88,
+    };
+    let bytes = written(&book, len);
     Example {
         suite: (book.cipher, book.steps),
         sealings: sealings(&book, &bytes),
@@ -324,11 +332,17 @@ fn wrong_example(
     .concat())
 }
 
+/// The example is the book as the writer makes it, the older one as it is printed.
 #[test]
 fn worked_example() {
     let document = Document::read(PAGE);
-    let failures = wrong_example(&document, "## An example", known_value_8);
-    assert_none(&all(failures));
+    let newest = wrong_example(&document, "## An example", |key| {
+        known_value_8(Kind::NEWEST, key)
+    });
+    let older = wrong_example(&document, "## An older book", |key| {
+        known_value_8(Kind::Tag10, key)
+    });
+    assert_none(&[all(newest), all(older)].concat());
 }
 
 /// The words that the 16 words of a single bit become.
@@ -451,48 +465,103 @@ fn assert_laid_out(document: &Document, table: &Table, bytes: &[u8], letters: &[
     assert_eq!(at, bytes.len(), "{}", document.at(table.line, "its end"));
 }
 
-/// The tables of the layout, on the book of the worked example: opening fields, a unit, the close, and a unit's text.
+/// The kinds in the order of the page: that of the writer first.
+const SHOWN_KINDS: [Kind; 2] = [Kind::Tag14, Kind::Tag10];
+
+/// The tables of the layout, on the books of the worked examples: opening fields, of each kind a unit and the close, and
+/// a unit's text; and what the page says of the length of each.
 #[test]
 fn layout() {
     let document = Document::read(PAGE);
-    let example = known_value_8([7; 16]);
     let header = ["at", "bytes", "what it is"];
-    let tables = |heading| document.tables_in(&document.under(heading).expect(heading), &header);
-    let [opening, unit, close] = tables("## A book, byte by byte")[..] else {
-        panic!("three tables");
+    let tables = |heading: &str| {
+        let section = document.under(heading).expect(heading);
+        document.tables_in(&section, &header)
+    };
+    let [opening, ..] = tables("## A book, byte by byte")[..] else {
+        panic!("a table");
     };
     let [text] = tables("## What is sealed")[..] else {
         panic!("one table");
     };
-    let sealing = &example.sealings[0];
-    let m = sealing.text.len();
-    let places = places(&Book::known([7; 16]));
-    let laid_out = |table, range: Range<usize>| {
-        assert_laid_out(&document, table, &example.bytes[range], &[("m", m)]);
-    };
-    laid_out(opening, 0..places[0]);
-    laid_out(unit, places[0]..places[1]);
-    laid_out(close, places[1]..example.bytes.len());
-    assert_laid_out(&document, text, &sealing.text, &[("s", 5), ("t", 6)]);
+    let words: Vec<&str> = document.source.text.split_whitespace().collect();
+    let words = words.join(" ");
+    for kind in SHOWN_KINDS {
+        let [unit, close] = tables(&format!("### Kind {:02X}", kind.header_tag()))[..] else {
+            panic!("two tables");
+        };
+        let example = known_value_8(kind, [7; 16]);
+        let sealing = &example.sealings[0];
+        let m = sealing.text.len();
+        let places = places(&Book::known(kind, [7; 16]));
+        let laid_out = |table, range: Range<usize>| {
+            assert_laid_out(&document, table, &example.bytes[range], &[("m", m)]);
+        };
+        laid_out(opening, 0..places[0]);
+        laid_out(unit, places[0]..places[1]);
+        laid_out(close, places[1]..example.bytes.len());
+        assert_laid_out(&document, text, &sealing.text, &[("s", 5), ("t", 6)]);
 
-    let kinds = document.table(&[
+        // s and t are 5 and 6, and so m is 13
+        let (unit, close) = (places[1] - places[0], example.bytes.len() - places[1]);
+        let headers = [0, 1].map(|i| example.sealings[i].header.len());
+        for due in [
+            format!("**A unit**, {} + m bytes", unit - m),
+            format!("**The close**, {close} bytes:"),
+            format!(
+                "16 + the sum of ({} + s + t) over its units + {close} bytes",
+                unit - 11
+            ),
+            match kind {
+                Kind::Tag14 => format!(
+                    "of kind 14 has {} bytes, that of a close {};",
+                    headers[0], headers[1]
+                ),
+                Kind::Tag10 => format!("of kind 10 it has {} and {}.", headers[0], headers[1]),
+            },
+        ] {
+            assert!(words.contains(&due), "{}", document.at(1, due));
+        }
+    }
+}
+
+/// The table of kinds: tags and widths are those of the worked examples, and a book of a kind has as many units at most as
+/// the second implementation's writer of that kind adds.
+#[test]
+fn kinds() {
+    let document = Document::read(PAGE);
+    let table = document.table(&[
         "kind",
         "tag of a unit",
         "tag of the close",
+        "bytes of a number",
         "units at most",
         "written by",
     ]);
-    let [kind] = &kinds.expect("the table of kinds").rows[..] else {
-        panic!("one kind");
-    };
-    let tags = [places[0], places[1]].map(|at| format!("{:02X}", example.bytes[at]));
-    let due = [
-        tags[0].clone(),
-        format!("`{}`", tags[0]),
-        format!("`{}`", tags[1]),
-    ];
-    assert_eq!(kind.cells[..3], due);
-    assert_eq!(kind.cells[3].replace(',', ""), raw::UNITS_MAX.to_string());
+    let rows = &table.expect("the table of kinds").rows;
+    assert_eq!(rows.len(), SHOWN_KINDS.len());
+    for (row, kind) in rows.iter().zip(SHOWN_KINDS) {
+        let places = places(&Book::known(kind, [7; 16]));
+        let bytes = known_value_8(kind, [7; 16]).bytes;
+        let tags = [places[0], places[1]].map(|at| format!("{:02X}", bytes[at]));
+        // the close's first field has the count alone
+        let width = u16::from_be_bytes([bytes[places[1] + 1], bytes[places[1] + 2]]);
+        let due = [
+            tags[0].clone(),
+            format!("`{}`", tags[0]),
+            format!("`{}`", tags[1]),
+            width.to_string(),
+            kind.most_units().to_string(),
+        ];
+        let told: Vec<String> = row.cells[..5]
+            .iter()
+            .map(|cell| cell.replace(',', ""))
+            .collect();
+        assert_eq!(told, due, "{}", document.at(row.line, "differs"));
+    }
+    let newest = rows[0].cells[4].replace(',', "");
+    assert_eq!(newest, raw::UNITS_MAX.to_string());
+    assert_eq!(SHOWN_KINDS[0], Kind::NEWEST);
 }
 
 /// The table of the tweaks: the byte behind the nonce of each.

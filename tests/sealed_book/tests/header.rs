@@ -32,9 +32,9 @@ fn about_lengths() -> Vec<String> {
         raw::SCORE_MAX as usize,
     ];
     let [unit, book] = [raw::unit_room(5, 6), raw::book_room(1, 11)];
-    let longest = raw::book_room(65_535, 65_535 * 8_192);
+    let longest = raw::book_room(16_777_215, 16_777_215 * 8_192);
     let mut lines = vec![
-        "version 2".to_string(),
+        "version 3".to_string(),
         format!("lengths {}", lengths.map(|len| len.to_string()).join(" ")),
         format!("rooms {unit} {book} {longest}"),
     ];
@@ -44,7 +44,7 @@ fn about_lengths() -> Vec<String> {
 
 /// What the client says about its book, from the reference.
 fn about_the_book() -> Vec<String> {
-    let mut book = [0xFF; 88];
+    let mut book = [0xFF; 92];
     let passed = |(writer, answer): (Writer, Answer)| {
         assert_eq!(answer, Ok(()));
         writer
@@ -63,7 +63,7 @@ fn about_the_book() -> Vec<String> {
         format!("short 7 {added}"),
         format!("close 0 {closed}"),
         format!("closed 10 {}", hex(&book)),
-        "place 84 units 1 calls 7".to_string(),
+        "place 88 units 1 calls 7".to_string(),
         "check 14 units 7 calls 8".to_string(),
         "check 0 units 1 calls 7".to_string(),
         format!("fetch 7 {untouched}"),
@@ -73,11 +73,11 @@ fn about_the_book() -> Vec<String> {
         format!("fetch 0 {unit}"),
         "source 5 target 6".to_string(),
         format!("fetch at 0 {unit}"),
-        "source 5 target 6 next 60".to_string(),
+        "source 5 target 6 next 62".to_string(),
         format!("fetch at 16 {unit}"),
-        "source 7 target 8 next 60".to_string(),
+        "source 7 target 8 next 62".to_string(),
         "fetch 2 ".to_string(),
-        "ciphertext 28 13".to_string(),
+        "ciphertext 30 13".to_string(),
         "ciphertext 0 0".to_string(),
         "ciphertext 0 0".to_string(),
     ]
@@ -112,7 +112,7 @@ fn in_the_clear() -> Vec<String> {
     let [en, de] = [b"en\0\0", b"de\0\0"].map(|code| hex(code));
     let unit = [
         format!("to 2 {de}"),
-        "from 2 ciphertext 28 13 next 60".to_string(),
+        "from 2 ciphertext 30 13 next 62".to_string(),
     ];
     let mut lines = vec![
         "info 14 7 8 9".to_string(),
@@ -224,18 +224,22 @@ fn client_in_c() {
     assert_eq!(text.lines().collect::<Vec<_>>(), expected);
 }
 
-/// The lengths and limits are those of the scope.
+/// The lengths and limits are those of the scope and of the requests.
 #[test]
 fn lengths_and_limits() {
     assert_eq!((raw::KEY_LEN, raw::BLOCK_LEN, raw::TAG_LEN), (16, 16, 16));
     assert_eq!((raw::NONCE_MAX, raw::LEN), (15, 64));
     assert_eq!((raw::SEGMENT_MAX, raw::UNIT_MAX), (4_096, 8_192));
-    assert_eq!((raw::UNITS_MAX, raw::CODE_LEN), (65_535, 2));
+    // "at most 16,777,215 units"
+    assert_eq!((raw::UNITS_MAX, raw::CODE_LEN), (16_777_215, 2));
     // "source length .. in 5 columns, two blanks, score in 4, a line feed"; "1,000 for equal segments"
     assert_eq!((raw::ROW_LEN, raw::SCORE_MAX), (5 + 2 + 4 + 1, 1_000));
-    // "A book takes 16 + the sum of (33 + s + t) + 24 bytes."
-    assert_eq!((raw::FIRST_UNIT, raw::CLOSE_ROOM), (16, 24));
-    assert_eq!((raw::unit_room(5, 6), raw::book_room(1, 11)), (44, 84));
+    // "A book takes 16 + the sum of (33 + s + t) + 24 bytes", with numbers of 4 bytes where it had 2: "88 bytes"
+    assert_eq!((raw::FIRST_UNIT, raw::CLOSE_ROOM), (16, 24 + 2));
+    assert_eq!(
+        (raw::unit_room(5, 6), raw::book_room(1, 11)),
+        (33 + 2 + 11, 88)
+    );
     for n in 1..=raw::NONCE_MAX {
         assert_eq!(raw::header_max(n), header_limit(n), "{n}");
         assert_eq!(raw::text_max(n), text_limit(n), "{n}");

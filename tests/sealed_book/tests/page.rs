@@ -1,13 +1,13 @@
 //! Pages of books that checking accepts: the request's example, random books of every suite, typed sentences
-//! of many lengths, every length of the page's buffer, and the longest book.
+//! of many lengths, and every length of the page's buffer. Pages of long books are in kinds.rs.
 
 mod common;
 
 use common::paging::{of_book, page_gives, pages};
-use common::parts::{random_book, written};
+use common::parts::{books_of_each_kind, random_book, some_book, written};
 use common::texts::{edited, text, KINDS};
 use common::writing::unit;
-use reference::book::{Book, Unit};
+use reference::book::{Book, Kind, Unit};
 use reference::cipher::SUITES;
 use reference::random::Random;
 use sealed_book::raw::{self, ROW_LEN};
@@ -18,8 +18,7 @@ const SEED: u64 = 0x5041_4745;
 #[test]
 fn known_book() {
     let mut random = Random::new(SEED);
-    let book = Book::known(random.bytes());
-    let (bytes, _) = written(&book);
+    let books = Kind::ALL.map(|kind| Book::known(kind, random.bytes()));
     for (typed, row) in [
         ("valves", "    5   857\n"),
         ("valve", "    5  1000\n"),
@@ -31,12 +30,18 @@ fn known_book() {
         // val, alv and lve of 31 and 3 runs: 6,000 / 34
         ("Close the valve and wait a little", "    5   176\n"),
     ] {
-        assert_eq!(of_book(&book, typed.as_bytes()), row.as_bytes(), "{typed}");
-        pages(&book, &bytes, typed.as_bytes(), typed);
+        for book in &books {
+            let (bytes, _) = written(book);
+            assert_eq!(of_book(book, typed.as_bytes()), row.as_bytes(), "{typed}");
+            pages(book, &bytes, typed.as_bytes(), typed);
+        }
     }
-    let mut page = [b'.'; 15];
-    let len = raw::page(&book.key, &bytes, b"valves", &mut page);
-    assert_eq!((len, &page), (Ok(12), b"    5   857\n..."));
+    for book in &books {
+        let (bytes, _) = written(book);
+        let mut page = [b'.'; 15];
+        let len = raw::page(&book.key, &bytes, b"valves", &mut page);
+        assert_eq!((len, &page), (Ok(12), b"    5   857\n..."));
+    }
 }
 
 /// A unit with a source of this kind and length, and a target that must not matter.
@@ -71,7 +76,7 @@ fn random_books() {
     let mut digits = [0; 5];
     for suite in SUITES {
         for units in [0, 1, 2, 5, random.below(20), 40] {
-            let mut book = Book::random(&mut random, suite);
+            let mut book = some_book(&mut random, suite);
             for _ in 0..units {
                 let (s, t) = (some_length(&mut random), random.below(60));
                 book.units.push(some_unit(&mut random, s, t));
@@ -100,7 +105,7 @@ fn random_books() {
 #[test]
 fn every_typed_length() {
     let mut random = Random::new(SEED + 2);
-    let mut book = Book::random(&mut random, (2, 8));
+    let mut book = some_book(&mut random, (2, 8));
     book.units = [1, 2, 3, 40, 256, 300, 4_096]
         .map(|s| some_unit(&mut random, s, 9))
         .to_vec();
@@ -129,7 +134,7 @@ fn every_typed_length() {
 fn every_source_length() {
     let mut random = Random::new(SEED + 3);
     for (i, suite) in SUITES.into_iter().enumerate() {
-        let mut book = Book::random(&mut random, suite);
+        let mut book = some_book(&mut random, suite);
         for s in (1..=300).chain([1_000, 4_094, 4_095, 4_096]) {
             let t = random.one_of(&[0, 0, 1, 2, 13, 14, 15, 16, 30]);
             book.units.push(some_unit(&mut random, s, t));
@@ -173,14 +178,15 @@ fn every_room() {
 fn no_units() {
     let mut random = Random::new(SEED + 5);
     for suite in SUITES {
-        let book = Book::random(&mut random, suite);
-        let (bytes, _) = written(&book);
-        for len in TYPED {
-            let typed = random.some_bytes(len);
-            pages(&book, &bytes, &typed, &format!("suite {suite:?}"));
-            let mut none = [];
-            let answer = raw::page(&book.key, &bytes, &typed, &mut none);
-            assert_eq!(answer, Ok(0), "suite {suite:?}");
+        for book in books_of_each_kind(&mut random, suite) {
+            let (bytes, _) = written(&book);
+            for len in TYPED {
+                let typed = random.some_bytes(len);
+                pages(&book, &bytes, &typed, &format!("suite {suite:?}"));
+                let mut none = [];
+                let answer = raw::page(&book.key, &bytes, &typed, &mut none);
+                assert_eq!(answer, Ok(0), "suite {suite:?}");
+            }
         }
     }
 }
@@ -207,32 +213,4 @@ fn other_targets() {
             page_gives(&other.key, &bytes, &typed, 60, &page, &name);
         }
     }
-}
-
-/// The longest book: 65,535 rows.
-#[test]
-fn a_full_book() {
-    let mut random = Random::new(SEED + 7);
-    let mut book = Book::random(&mut random, (1, 6));
-    for _ in 0..65_535 {
-        let s = 1 + random.below(9);
-        let source = text(&mut random, common::texts::Kind::Words, s);
-        book.units.push(Unit {
-            source,
-            ..unit(&mut random, 1, 0)
-        });
-    }
-    let (bytes, _) = written(&book);
-    let page = of_book(&book, b"the valve");
-    assert_eq!(page.len(), 786_420);
-    let (key, typed) = (&book.key, b"the valve");
-    page_gives(key, &bytes, typed, page.len() - 1, &Err(7), "65,535 units");
-    page_gives(
-        key,
-        &bytes,
-        typed,
-        page.len() + 1,
-        &Ok(page),
-        "65,535 units",
-    );
 }

@@ -8,13 +8,11 @@ use common::paging::{page_gives, paged, Answer};
 use common::parts::{random_book, three_units, unit_fields, written, Parts};
 use common::refused::{first_of_each_set, random_case, Cause, CAUSES};
 use common::spoiling::{bad_openings, damage, some_frames};
-use common::writing::unit;
 use common::UNLISTED;
-use reference::book::Book;
 use reference::check::check;
 use reference::cipher::SUITES;
 use reference::random::Random;
-use sealed_book::raw::{self, CLOSE_ROOM, ROW_LEN};
+use sealed_book::raw::{self, ROW_LEN};
 
 const SEED: u64 = 0x5052_4546;
 
@@ -85,7 +83,7 @@ fn keys_suites_and_openings() {
             page_gives(&book.key, &bytes[..len], b"a", room, &Err(14), "cut");
         }
     }
-    for more in [0x00, 0x10, 0x20] {
+    for more in [0x00, 0x10, 0x14, 0x20, 0x21] {
         let longer = [&bytes[..], &[more]].concat();
         for room in [0, 24] {
             page_gives(&book.key, &longer, b"a", room, &Err(14), "left over");
@@ -129,7 +127,8 @@ fn refused_late() {
         let book = three_units(&mut random, suite);
         let typed = book.units[0].source.clone();
         let (bytes, _) = written(&book);
-        for at in [bytes.len() - 1, bytes.len() - CLOSE_ROOM - 1] {
+        let close = bytes.len() - book.kind.close_len();
+        for at in [bytes.len() - 1, close - 1] {
             let mut damaged = bytes.clone();
             damaged[at] ^= 1;
             for room in [0, 12, 36, 50] {
@@ -142,21 +141,6 @@ fn refused_late() {
         let bytes = parts.joined();
         page_gives(&book.key, &bytes, &typed, 50, &Err(12), "s out of range");
         page_gives(&book.key, &bytes, &typed, 0, &Err(12), "s out of range");
-    }
-}
-
-/// One unit more than a book may have.
-#[test]
-fn too_many_units() {
-    let mut random = Random::new(SEED + 5);
-    let mut book = Book::random(&mut random, (1, 6));
-    book.units = (0..65_535).map(|_| unit(&mut random, 1, 0)).collect();
-    let (mut bytes, _) = written(&book);
-    let close = bytes.split_off(bytes.len() - CLOSE_ROOM);
-    bytes.extend(unit_fields(&book, 65_535, 65_535, *b"ende", &[0, 1, 2]).concat());
-    bytes.extend(close);
-    for room in [0, 65_536 * ROW_LEN] {
-        page_gives(&book.key, &bytes, b"valves", room, &Err(13), "65,536 units");
     }
 }
 

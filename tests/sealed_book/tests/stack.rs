@@ -14,7 +14,7 @@ use common::guarded::Numbers;
 use common::parts::{random_book, written};
 use common::program::archive;
 use common::writing::unit;
-use reference::book::Book;
+use reference::book::{Book, Kind};
 use reference::cipher::SUITES;
 use reference::random::Random;
 use sealed_book::foreign::*;
@@ -281,7 +281,7 @@ fn paging(most: &mut Most, random: &mut Random, key: &[u8], book: &[u8], checked
     }
 }
 
-/// The most that each call takes, over books in all suites, whole and damaged, with a short unit, the longest one, and
+/// The most that each call takes, over books of both kinds in all suites, whole and damaged, with a short unit, the longest one, and
 /// one whose text and whose source have enough blocks for a group that is filled up.
 fn measured() -> BTreeMap<&'static str, usize> {
     let mut most = Most {
@@ -296,16 +296,20 @@ fn measured() -> BTreeMap<&'static str, usize> {
         let mut book = random_book(&mut random, suite, 3, 40);
         book.units[1] = unit(&mut random, 4_096, 4_096);
         book.units[2] = unit(&mut random, 480, 30);
+        book.kind = Kind::NEWEST;
         let bytes = writing(&mut most, &book);
         assert_eq!(bytes, written(&book).0);
-        assert_eq!(reading(&mut most, &book.key, &bytes), [0, 0]);
-        assert_eq!(reading(&mut most, &book.key[1..], &bytes), [2, 2]);
-        assert_eq!(reading(&mut most, &[0; 16], &bytes), [8, 8]);
-        reading(&mut most, &book.key, &bytes[..bytes.len() - 1]);
+        book.kind = Kind::Tag10;
+        for bytes in [bytes, written(&book).0] {
+            assert_eq!(reading(&mut most, &book.key, &bytes), [0, 0]);
+            assert_eq!(reading(&mut most, &book.key[1..], &bytes), [2, 2]);
+            assert_eq!(reading(&mut most, &[0; 16], &bytes), [8, 8]);
+            reading(&mut most, &book.key, &bytes[..bytes.len() - 1]);
+            paging(&mut most, &mut random, &book.key, &bytes, 0);
+            paging(&mut most, &mut random, &book.key[1..], &bytes, 2);
+            paging(&mut most, &mut random, &[0; 16], &bytes, 8);
+        }
         reading(&mut most, &book.key, &[]);
-        paging(&mut most, &mut random, &book.key, &bytes, 0);
-        paging(&mut most, &mut random, &book.key[1..], &bytes, 2);
-        paging(&mut most, &mut random, &[0; 16], &bytes, 8);
         paging(&mut most, &mut random, &book.key, &[], 14);
     }
     most.of

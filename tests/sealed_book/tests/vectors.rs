@@ -1,12 +1,13 @@
 //! The library and the reference against every line of cipher.txt, in both directions, and the library
-//! against every line of seal.txt, open.txt and page.txt.
+//! against every line of seal.txt, open.txt, fetch.txt and page.txt. Those of book.txt and books.txt are in check.rs.
 
 mod common;
 
+use common::fetching::{fetch_gives, part_gives, Which::Walked};
 use common::paging::page_gives;
 use common::sealing::Given;
 use common::Direction::{Decipher, Encipher};
-use reference::vectors::{cipher_vectors, open_vectors, page_vectors, seal_vectors};
+use reference::vectors::{cipher_vectors, fetch_vectors, open_vectors, page_vectors, seal_vectors};
 
 #[test]
 fn cipher_vectors_hold() {
@@ -74,6 +75,22 @@ fn open_vectors_hold() {
         given.open_gives(len + 9, &v.answer, &name);
         if len > 0 {
             given.open_gives(len - 1, &Err(7), &name);
+        }
+    }
+}
+
+#[test]
+fn fetch_vectors_hold() {
+    let vectors = fetch_vectors();
+    assert_eq!(vectors.len(), 80);
+    for v in vectors {
+        let (name, which) = (format!("line {}", v.line), Walked(v.k));
+        fetch_gives(&v.key, &v.book, which, v.room, &v.answer, &name);
+        part_gives(&v.book, v.k, v.ciphertext, &name);
+        if let Ok(unit) = &v.answer {
+            let len = unit.written().len();
+            fetch_gives(&v.key, &v.book, which, len, &v.answer, &name);
+            fetch_gives(&v.key, &v.book, which, len - 1, &Err(7), &name);
         }
     }
 }

@@ -4,10 +4,10 @@
 mod common;
 
 use common::writing::{unit, Call, Desk};
-use reference::book::Book;
+use reference::book::{Book, Kind};
 use reference::cipher::SUITES;
 use reference::random::Random;
-use reference::vectors::book_vectors;
+use reference::vectors::{book_vectors, books_vectors};
 
 const SEED: u64 = 0x5752_4954;
 
@@ -31,47 +31,57 @@ fn written(random: &mut Random, book: &Book, spare: usize, name: &str) -> Desk {
     desk
 }
 
-/// Known value 8.
+/// Known value 8, as the writer makes it: "88 bytes, 7 calls".
 #[test]
 fn known_book() {
     let mut random = Random::new(SEED);
-    let book = Book::known(random.bytes());
+    let book = Book::known(Kind::NEWEST, random.bytes());
     let desk = written(&mut random, &book, 16, "known value 8");
     assert_eq!(
         desk.buffer[..16],
         [1, 0, 8, 0, 0, 0, 0, 0, 0, 0, 7, 2, 0, 2, 1, 0x0A]
     );
     assert_eq!(
-        desk.buffer[16..25],
-        [0x10, 0, 6, 0, 0, 0x65, 0x6E, 0x64, 0x65]
+        desk.buffer[16..27],
+        [0x14, 0, 8, 0, 0, 0, 0, 0x65, 0x6E, 0x64, 0x65]
     );
+    assert_eq!(desk.buffer[62..69], [0x21, 0, 4, 0, 0, 0, 1]);
     let writer = desk.value();
-    assert_eq!((writer.place, writer.units, writer.calls), (84, 1, 7));
+    assert_eq!((writer.place, writer.units, writer.calls), (88, 1, 7));
     assert!(writer.closed);
 }
 
-/// The accepted books of book.txt, taken apart by the reference and written again.
+/// The accepted books of book.txt and books.txt, taken apart by the reference and written again: the wide ones as
+/// they are, and the old ones with the same units, count and call total as wide ones.
 #[test]
 fn book_vectors_are_written_again() {
     let mut random = Random::new(SEED + 1);
-    let mut suites = Vec::new();
-    for v in book_vectors() {
+    let mut kinds = [0; 2];
+    for v in book_vectors().into_iter().chain(books_vectors()) {
         let Ok((units, calls)) = v.answer else {
             continue;
         };
         let name = format!("line {}", v.line);
         let key = v.key[..].try_into().expect("an accepted key");
-        let book = Book::taken_apart(&key, &v.book).expect("a book");
+        let mut book = Book::taken_apart(&key, &v.book).expect("a book");
+        let kind = std::mem::replace(&mut book.kind, Kind::NEWEST);
         for spare in [0, 1, 30] {
             let desk = written(&mut random, &book, spare, &name);
-            assert_eq!(desk.buffer[..v.book.len()], v.book, "{name}");
+            let len = match kind {
+                Kind::Tag10 => v.book.len() + 2 * (units + 1),
+                Kind::Tag14 => v.book.len(),
+            };
+            assert_eq!(desk.place(), len, "{name}");
+            if kind == Kind::NEWEST {
+                assert_eq!(desk.buffer[..len], v.book, "{name}");
+            }
             let writer = desk.value();
             assert_eq!(writer.units, units as u64, "{name}");
             assert_eq!(writer.calls, calls as u64, "{name}");
         }
-        suites.push((book.cipher, book.steps));
+        kinds[usize::from(kind == Kind::NEWEST)] += 1;
     }
-    assert_eq!(suites, SUITES);
+    assert_eq!(kinds, [8 + 10, 9]);
 }
 
 /// Buffers filled with one byte, in which a byte too many or too few would show.
@@ -163,7 +173,7 @@ fn every_short_length() {
             let unit = unit(&mut random, s, t);
             desk.passes(&Call::Add(unit), 200, &name);
             let calls = 3 + (2 + s as u64 + t as u64).div_ceil(16);
-            assert_eq!(desk.place(), 49 + s + t, "{name}");
+            assert_eq!(desk.place(), 16 + 35 + s + t, "{name}");
             assert_eq!(desk.value().calls, calls, "{name}");
         }
     }
@@ -226,9 +236,9 @@ fn one_list(random: &mut Random, suite: (u8, u8), counts: &mut Counts, name: &st
         let place = desk.place();
         let (call, lent) = match random.below(24) {
             // just enough, and one byte too few, as far as the buffer goes
-            0 => (Call::Add(unit), place + 33 + s + t),
-            1 => (Call::Add(unit), place + 32 + s + t),
-            2 => (Call::Close, place + 23),
+            0 => (Call::Add(unit), place + 35 + s + t),
+            1 => (Call::Add(unit), place + 34 + s + t),
+            2 => (Call::Close, place + 25),
             // a buffer that ends before the place, and one that ends there
             3 => (Call::Add(unit), random.below(place)),
             4 => (Call::Close, random.below(place)),
@@ -269,8 +279,8 @@ fn one_list(random: &mut Random, suite: (u8, u8), counts: &mut Counts, name: &st
     desk.assert_holds(&book, name);
 
     // closed, and then no more
-    desk.buffer.resize(len + 24, 0x7E);
-    let len = len + 24;
+    desk.buffer.resize(len + 26, 0x7E);
+    let len = len + 26;
     let answer = desk.call(&Call::Close, len, name);
     assert!([Ok(()), Err(10)].contains(&answer), "{name}");
     desk.assert_holds(&book, name);

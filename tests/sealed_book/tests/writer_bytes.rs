@@ -125,10 +125,10 @@ fn strange_numbers() {
         16,
         17,
         100,
-        len - 34,
-        len - 33,
-        len - 24,
-        len - 23,
+        len - 36,
+        len - 35,
+        len - 26,
+        len - 25,
         len - 1,
         len,
         len + 1,
@@ -144,10 +144,12 @@ fn strange_numbers() {
             1,
             255,
             256,
-            65_534,
             65_535,
             65_536,
-            65_537,
+            16_777_214,
+            16_777_215,
+            16_777_216,
+            16_777_217,
             (1 << 32) - 1,
             1 << 32,
             (1 << 54) - 1,
@@ -161,9 +163,9 @@ fn strange_numbers() {
                 most.wrapping_sub(1),
                 most,
                 most.wrapping_add(1),
-                1 << 26,
-                (1 << 26) + 1,
                 1 << 32,
+                1 << 34,
+                (1 << 34) + 1,
                 u64::MAX,
             ] {
                 let writer = Writer {
@@ -201,7 +203,16 @@ fn mutations() {
             writer.place = 10 + random.below(LEN) as u64;
         }
         if random.below(3) == 0 {
-            writer.units = random.one_of(&[0, 1_000, 65_533, 65_534, 65_535, 65_536]);
+            let limit = [16_777_213, 16_777_214, 16_777_215, 16_777_216];
+            let units = [
+                0,
+                1_000,
+                65_535,
+                65_536,
+                random.one_of(&limit),
+                random.one_of(&limit),
+            ];
+            writer.units = random.one_of(&units);
         }
         let most = 1_024 * (writer.units + 1);
         if random.below(3) == 0 {
@@ -266,7 +277,7 @@ fn open_or_closed() {
 #[test]
 fn call_total_past_the_limit_after_a_close() {
     let mut random = Random::new(SEED + 6);
-    for units in [0, 1, 65_535] {
+    for units in [0, 1, 65_535, 65_536, 16_777_215] {
         let writer = Writer {
             units,
             calls: 1_024 * (units + 1),

@@ -20,7 +20,7 @@ const CLOSE: [u32; 3] = [9, 10, 7];
 /// An open writer that is not refused, at this place.
 fn writer(random: &mut Random, place: usize) -> Writer {
     let (cipher, steps) = random.one_of(&SUITES);
-    let units = random.one_of(&[0, 1, 255, 256, 65_534]);
+    let units = random.one_of(&[0, 1, 255, 256, 65_535, 65_536, 16_777_214]);
     Writer {
         cipher,
         steps,
@@ -39,10 +39,10 @@ fn spoil(random: &mut Random, writer: &mut Writer, len: usize) {
         0 => (writer.cipher, writer.steps) = random.one_of(&UNLISTED),
         1 => writer.place = random.one_of(&[0, 1, 15]),
         2 => writer.place = random.one_of(&[len as u64 + 1, len as u64 + 40, u64::MAX]),
-        3 => writer.units = random.one_of(&[65_536, 65_537, 1 << 32, u64::MAX]),
+        3 => writer.units = random.one_of(&[16_777_216, 16_777_217, 1 << 32, u64::MAX]),
         _ => {
             let over = 1_024 * (writer.units + 1) + 1;
-            writer.calls = random.one_of(&[over, over + 1_023, 1 << 32, u64::MAX]);
+            writer.calls = random.one_of(&[over, over + 1_023, 1 << 35, u64::MAX]);
         }
     }
 }
@@ -132,11 +132,11 @@ fn add_gives_the_first_cause() {
         let place = 16 + random.below(100);
         let mut writer = writer(random, place);
         if set.contains(&13) {
-            writer.units = 65_535;
+            writer.units = 16_777_215;
         }
         let len = match set.contains(&7) {
-            true => place + random.one_of(&[0, 1, 32, 32 + s + t]),
-            false => place + 33 + s + t + random.below(2),
+            true => place + random.one_of(&[0, 1, 34, 34 + s + t]),
+            false => place + 35 + s + t + random.below(2),
         };
         let mut desk = spoiled(random, writer, set, len);
         desk.call(&Call::Add(unit), len, name)
@@ -154,11 +154,11 @@ fn close_gives_the_first_cause() {
         let place = 16 + random.below(100);
         let mut writer = writer(random, place);
         if random.below(2) == 0 {
-            writer.units = 65_535;
+            writer.units = 16_777_215;
         }
         let len = match set.contains(&7) {
-            true => place + random.one_of(&[0, 1, 16, 23]),
-            false => place + 24 + random.below(2),
+            true => place + random.one_of(&[0, 1, 16, 24, 25]),
+            false => place + 26 + random.below(2),
         };
         let mut desk = spoiled(random, writer, set, len);
         desk.call(&Call::Close, len, name)
@@ -251,10 +251,10 @@ fn every_code() {
             for to in [[a, b], [b, a], [a, other], [other, b]] {
                 let mut unit = unit(&mut random, 1, 0);
                 (unit.from, unit.to) = ([a, b], to);
-                let mut desk = Desk::with(&mut random, writer(&mut Random::new(1), 16), 50);
+                let mut desk = Desk::with(&mut random, writer(&mut Random::new(1), 16), 52);
                 match unit.from == to {
-                    true => desk.refuses(&Call::Add(unit), 50, 11, "the same code"),
-                    false => desk.passes(&Call::Add(unit), 50, "two codes"),
+                    true => desk.refuses(&Call::Add(unit), 52, 11, "the same code"),
+                    false => desk.passes(&Call::Add(unit), 52, "two codes"),
                 }
             }
         }
@@ -301,8 +301,8 @@ fn every_buffer_length() {
         let (first, second) = (unit(&mut random, 10, 7), unit(&mut random, 1, 0));
         for (call, place) in [
             (Call::Add(first), 16),
-            (Call::Add(second), 66),
-            (Call::Close, 100),
+            (Call::Add(second), 68),
+            (Call::Close, 104),
         ] {
             assert_eq!(desk.place(), place);
             for len in 0..=150 {
@@ -315,7 +315,7 @@ fn every_buffer_length() {
             desk.passes(&call, 150, "");
         }
         for len in 0..=150 {
-            let number = if len < 124 { 9 } else { 10 };
+            let number = if len < 130 { 9 } else { 10 };
             desk.refuses(&Call::Close, len, number, "closed");
         }
     }
@@ -330,22 +330,23 @@ fn a_full_book() {
         let writer = Writer {
             cipher,
             steps,
-            units: 65_534,
+            units: 16_777_214,
             ..writer(&mut random, 16)
         };
         let mut desk = Desk::with(&mut random, writer, 300);
         let name = format!("suite {suite:?}");
         let last = unit(&mut random, 20, 20);
         desk.passes(&Call::Add(last), 300, &name);
-        assert_eq!(desk.buffer[16..21], [0x10, 0, 6, 0xFF, 0xFE], "{name}");
-        assert_eq!(desk.value().units, 65_535, "{name}");
+        let head = [0x14, 0, 8, 0, 0xFF, 0xFF, 0xFE];
+        assert_eq!(desk.buffer[16..23], head, "{name}");
+        assert_eq!(desk.value().units, 16_777_215, "{name}");
         let more = unit(&mut random, 1, 0);
         desk.refuses(&Call::Add(more), 300, 13, &name);
         let place = desk.place();
         desk.passes(&Call::Close, 300, &name);
-        let close = [0x20, 0, 2, 0xFF, 0xFF, 0x12, 0, 16];
-        assert_eq!(desk.buffer[place..place + 8], close, "{name}");
-        assert_eq!(desk.value().units, 65_535, "{name}");
+        let close = [0x21, 0, 4, 0, 0xFF, 0xFF, 0xFF, 0x12, 0, 16];
+        assert_eq!(desk.buffer[place..place + 10], close, "{name}");
+        assert_eq!(desk.value().units, 16_777_215, "{name}");
         assert!(desk.value().closed, "{name}");
     }
 }

@@ -2,7 +2,7 @@
 use mathlib.Core.Path.{sym, ap, _∙_}
 use borrow.Author.Needs.{needs}
 use Rattle.suites.specs.declared.suite.Suite.{Suite}
-use Rattle.parser.specs.Opening.{openingNumber, openingSuite}
+use Rattle.opening_fields.specs.Opening.{openingNumber, openingSuite}
 use Rattle.returned.specs.Returned.{returned}
 use Rattle.suites.specs.Told.{byAnswer}
 use Rattle.c_clear.proofs.sb_info.Statement.{statement}

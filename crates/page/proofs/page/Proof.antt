@@ -9,7 +9,7 @@ use lib.Seq.{length-take-le}
 use Rattle.bits.proofs.Lists.{part-rest}
 use Rattle.kinds.specs.declared.Kind.{Kind as BookKind}
 use Rattle.kinds.specs.Kind.{kindOf, bookKind}
-use Rattle.parser.specs.Opening.{openingBytes, afterOpening}
+use Rattle.opening_fields.specs.Opening.{openingBytes, afterOpening}
 use Rattle.seals.specs.Parts.{Under}
 use Rattle.checker.specs.Check.{checkAnswer}
 use Rattle.checker.specs.declared.check.CheckAnswer.the-variants.{Accepted}

@@ -11,7 +11,7 @@ use Rattle.limits.specs.Tests.{unless}
 use Rattle.verifying.specs.Verify.{verifyAnswer}
 use Rattle.kinds.specs.Kind.{kindOf}
 use Rattle.parser.specs.Frame.{afterClose}
-use Rattle.parser.specs.Opening.{openingSuite}
+use Rattle.opening_fields.specs.Opening.{openingSuite}
 use Rattle.parser.proofs.Frames.{CloseTold, close-told}
 use Rattle.seals.specs.Seal.{closeSealTests}
 use Rattle.seals.proofs.Verified.{closeVerified, close-refused, close-passed}

@@ -7,7 +7,7 @@ use Rattle.suites.specs.declared.refusal.Refusal.the-variants.{SegmentLength}
 use Rattle.limits.specs.Tests.{unless}
 use Rattle.verifying.specs.Verify.{verifyAnswer}
 use Rattle.kinds.specs.Kind.{kindOf}
-use Rattle.parser.specs.Opening.{openingSuite}
+use Rattle.opening_fields.specs.Opening.{openingSuite}
 use Rattle.parser.proofs.Frames.{UnitTold, unit-told}
 use Rattle.seals.specs.Seal.{unitSealTests}
 use Rattle.seals.proofs.Verified.{unitVerified, unit-refused, unit-passed}

@@ -9,13 +9,12 @@ use lib.Dec.{eqb, ltb}
 use lib.ListN.{length, drop}
 use Rattle.kinds.specs.Kind.{kindOf}
 use Rattle.kinds.specs.Lengths.{frameLength}
-use Rattle.parser.specs.declared.frame.Frame.{Frame}
-use Rattle.parser.specs.declared.frame.Frame.the-variants.{Unit, Close, Refused}
-use Rattle.parser.specs.Frame.{frameAt}
+use Rattle.parser.specs.declared.frame.Frame.the-variants.{Unit}
+use Rattle.parser.specs.Frame.{frameAt, ciphertextLength}
 use Rattle.parser.proofs.Frames.{unit-told}
 use Rattle.bits.proofs.Lists.{part-rest}
-use Rattle.walk.specs.Walk.{pastUnit, walkTo}
-use Rattle.walk.proofs.Places.{unit-within, placeOf, walkFrom, turn-first, turn-last, turn}
+use Rattle.walk.specs.Walk.{walkTo}
+use Rattle.walk.proofs.Places.{unit-of, stops, unit-within, placeOf, walkFrom, turn-first, turn-last, turn}
 use Rattle.walk.proofs.to.Statement.{statement}
 use Rattle.walk.proofs.to.Tie as tie
 
@@ -37,55 +36,58 @@ module _ (number k ahead : ℕ) where
   ended : ahead ≡ 0 → (ltb number k && eqb ahead 0) ≡ false → k ≤ number
   ended z e = ltb-false number k (rw (eq-eqb ahead 0 z, and-true) at e)
 
-module _ (c : tie.After-at Inv-loop μ-loop) where
+module _ (c : tie.After-ciphertext-len Inv-loop μ-loop) where
   -- what was read
   read : let h = c .before .before .before in let a = h .before .before .args in
-      c .at .result ≡ frameAt (kindOf (a .kind)) (h .loop .number) (drop (h .loop .at) (a .s .now))
+      c .ciphertext-len .result ≡ ciphertextLength (frameAt (kindOf (a .kind)) (h .loop .number) (drop (h .loop .at) (a .s .now)))
   read =
       let h = c .before .before .before in
       let a = h .before .before .args in
-      c .at .ensures ∙ ap (frameAt (kindOf (a .kind)) (h .loop .number)) (part-rest (h .loop .at) (a .s .now))
+      c .ciphertext-len .ensures
+      ∙ ap (λ r. ciphertextLength (frameAt (kindOf (a .kind)) (h .loop .number) r)) (part-rest (h .loop .at) (a .s .now))
 
   more : let h = c .before .before .before in h .loop .number < h .before .before .args .k
   more = let h = c .before .before .before in asked (h .loop .number) (h .before .before .args .k) (h .loop .ahead) (c .before .before .loop-test .taken)
 
-  -- one turn
-  turned : (f : Frame) → c .at .result ≡ f → let h = c .before .before .before in let a = h .before .before .args in let kind = kindOf (a .kind) in
-      pastUnit f (λ (m : ℕ). walkFrom kind (a .k) (h .loop .number + 1) (h .loop .at + frameLength kind m) (a .s .now))
-      (placeOf (h .loop .number) (h .loop .at))
-      ≡ walkTo kind (a .k) (a .s .now)
-  turned f e =
-      let h = c .before .before .before in
-      let a = h .before .before .args in
-      sym (turn (kindOf (a .kind)) (a .k) (h .loop .number) (h .loop .at) (a .s .now) more f (sym read ∙ e)) ∙ h .loop .inv .2
-
+-- no unit: the walk ends here
 returns : tie.Need-returns Inv-loop μ-loop
-returns c = let f = c .before .frame .given in turned (c .before .before .before) (Refused (f .0 .0)) (f .1)
-
-returns-2 : tie.Need-returns-2 Inv-loop μ-loop
-returns-2 c = turned (c .before .before) Close (c .enum-told .given .1)
+returns c =
+    let w = c .before in
+    let h = w .before .before .before in
+    let a = h .before .before .args in
+    let kind = kindOf (a .kind) in
+    let f = frameAt kind (h .loop .number) (drop (h .loop .at) (a .s .now)) in
+    sym (stops kind (h .loop .number) (drop (h .loop .at) (a .s .now)) _ (placeOf (h .loop .number) (h .loop .at)) (sym (read w) ∙ c .if1 .taken))
+    ∙ sym (turn kind (a .k) (h .loop .number) (h .loop .at) (a .s .now) (more w) f refl)
+    ∙ h .loop .inv .2
 
 -- a unit that was read
-module _ (c : tie.After-known-told2 Inv-loop μ-loop) where
-  unit : let d = c .before .before .before in let h = d .before .before .before in let a = h .before .before .args in
-      frameAt (kindOf (a .kind)) (h .loop .number) (drop (h .loop .at) (a .s .now)) ≡ Unit (c .before .frame2 .given .0 .0)
-  unit = sym (read (c .before .before .before)) ∙ c .before .frame2 .given .1
+module _ (c : tie.Else1 Inv-loop μ-loop) where
+  unit : let w = c .before in let h = w .before .before .before in let a = h .before .before .args in
+      frameAt (kindOf (a .kind)) (h .loop .number) (drop (h .loop .at) (a .s .now)) ≡ Unit (w .ciphertext-len .result)
+  unit =
+      let w = c .before in
+      let h = w .before .before .before in
+      let a = h .before .before .args in
+      unit-of (frameAt (kindOf (a .kind)) (h .loop .number) (drop (h .loop .at) (a .s .now))) (w .ciphertext-len .result) (read w) (c .if1 .left)
 
-  small : c .before .frame2 .given .0 .0 ≤ 8194
+  small : c .before .ciphertext-len .result ≤ 8194
   small =
-      let h = c .before .before .before .before .before .before in
+      let w = c .before in
+      let h = w .before .before .before in
       let a = h .before .before .args in
-      unit-told (kindOf (a .kind)) (h .loop .number) (c .before .frame2 .given .0 .0) (drop (h .loop .at) (a .s .now)) unit .most
+      unit-told (kindOf (a .kind)) (h .loop .number) (w .ciphertext-len .result) (drop (h .loop .at) (a .s .now)) unit .most
 
-  room : let h = c .before .before .before .before .before .before in let a = h .before .before .args in
-      h .loop .at + frameLength (kindOf (a .kind)) (c .before .frame2 .given .0 .0) ≤ length (a .s .now)
+  room : let w = c .before in let h = w .before .before .before in let a = h .before .before .args in
+      h .loop .at + frameLength (kindOf (a .kind)) (w .ciphertext-len .result) ≤ length (a .s .now)
   room =
-      let h = c .before .before .before .before .before .before in
+      let w = c .before in
+      let h = w .before .before .before in
       let a = h .before .before .args in
-      unit-within (kindOf (a .kind)) (a .s .now) (h .loop .number) (h .loop .at) (c .before .frame2 .given .0 .0) (h .loop .inv .1) unit
+      unit-within (kindOf (a .kind)) (a .s .now) (h .loop .number) (h .loop .at) (w .ciphertext-len .result) (h .loop .inv .1) unit
 
 add-number : tie.Need-add-number Inv-loop μ-loop
-add-number c = let h = more (c .before .before .before) in search needs
+add-number c = let h = more (c .before) in search needs
 
 unit-len-requires : tie.Need-unit-len-requires Inv-loop μ-loop
 unit-len-requires c κs = let h = small c in search needs
@@ -94,26 +96,27 @@ add-at : tie.Need-add-at Inv-loop μ-loop
 add-at c = let h = room (c .before) in search needs
 
 loop-less : tie.Need-loop-less Inv-loop μ-loop
-loop-less c = let h = more (c .before .before .before .before .before) in search needs
+loop-less c = let h = more (c .before .before .before) in search needs
 
 loop-again : tie.Need-loop-again Inv-loop μ-loop
 loop-again c =
     let l = c .before in
     let d = l .before in
-    let f = d .before .frame2 .given in
-    let w = d .before .before .before in
+    let w = d .before in
     let h = w .before .before .before in
     let a = h .before .before .args in
     let kind = kindOf (a .kind) in
     let next = more w in (
       omega arith,
       rw (l .unit-len .ensures .is) (room d),
-      ap (λ n. walkFrom kind (a .k) (h .loop .number + 1) (h .loop .at + n) (a .s .now)) (l .unit-len .ensures .is) ∙ turned w (Unit (f .0 .0)) (f .1),
+      ap (λ n. walkFrom kind (a .k) (h .loop .number + 1) (h .loop .at + n) (a .s .now)) (l .unit-len .ensures .is)
+          ∙ sym (turn kind (a .k) (h .loop .number) (h .loop .at) (a .s .now) next (Unit (w .ciphertext-len .result)) (unit d))
+          ∙ h .loop .inv .2,
       c .read-ahead .ensures,
     )
 
-returns-3 : tie.Need-returns-3 Inv-loop μ-loop
-returns-3 c =
+returns-2 : tie.Need-returns-2 Inv-loop μ-loop
+returns-2 c =
     let h = c .before in
     let a = h .before .before .args in
     sym (turn-last (kindOf (a .kind)) (a .k) (h .loop .number) (h .loop .at) (a .s .now)
@@ -131,15 +134,11 @@ to-spec =
     (λ c. search needs)
     (λ c. search needs)
     (λ c κs. search needs)
-    (λ c. search needs)
     returns
-    (λ c. search needs)
-    returns-2
-    (λ c. search needs)
     add-number
     unit-len-requires
     add-at
     (λ c κs. search needs)
     loop-less
     loop-again
-    returns-3)
+    returns-2)

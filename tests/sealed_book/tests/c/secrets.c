@@ -144,9 +144,10 @@ static size_t count, book_len;
 
 static uint8_t writer[SB_WRITER_LEN], book[200000], texts[sizeof book];
 
-/* Where a frame's ciphertext stands, and its tag: that of a unit, or of the close. */
+/* Where a frame's ciphertext stands, and its tag: that of a unit, or of the close. Either ends with a field of the tag; a
+ * unit's text has two bytes before source and target. */
 static size_t ciphertext_at(size_t frame) {
-    return units[frame].at + 12;
+    return units[frame].at + SB_UNIT_ROOM(0, 0) - 2 - 3 - SB_TAG_LEN;
 }
 
 static size_t ciphertext_len(size_t frame) {
@@ -154,7 +155,7 @@ static size_t ciphertext_len(size_t frame) {
 }
 
 static size_t tag_at(size_t frame) {
-    return (frame < count ? ciphertext_at(frame) + ciphertext_len(frame) : units[frame].at + 5) + 3;
+    return frame < count ? ciphertext_at(frame) + ciphertext_len(frame) + 3 : units[frame].at + SB_CLOSE_ROOM - SB_TAG_LEN;
 }
 
 static void start(uint8_t cipher, uint8_t steps) {

@@ -2,7 +2,7 @@
 
 use std::ops::Range;
 
-use reference::book::{unit_len, Book, Unit};
+use reference::book::{Book, Kind, Unit};
 use reference::fetch as second;
 use reference::fetch::Fetched;
 use sealed_book::foreign::{sb_ciphertext, sb_fetch, sb_fetch_at};
@@ -48,21 +48,15 @@ pub fn answer_of(key: &[u8], book: &[u8], which: Which, out_len: usize) -> Answe
         Walked(k) => second::fetch(key, book, k, out_len),
         Placed(number, at) => {
             let (unit, next) = second::fetch_at(key, book, number, at, out_len)?;
-            assert_eq!(next, behind(at, &unit), "reference: {which:?}");
+            assert_eq!(next, behind(book, at, &unit), "reference: {which:?}");
             Ok(unit)
         }
     }
 }
 
-/// Where the next unit begins, or the close, if this unit stands at a place.
-fn behind(at: usize, unit: &Fetched) -> usize {
-    let unit = Unit {
-        from: *b"en",
-        to: *b"de",
-        source: unit.source.clone(),
-        target: unit.target.clone(),
-    };
-    at + unit_len(&unit)
+/// Where the next unit begins, or the close, if this unit stands at a place of the book.
+fn behind(book: &[u8], at: usize, unit: &Fetched) -> usize {
+    at + Kind::read_as(book).unit_len(unit.source.len(), unit.target.len())
 }
 
 /// Has the library fetch into an output of this length as C does, with null for a slice of length 0,
@@ -107,7 +101,7 @@ pub fn fetch_gives(
     };
     // fetching behind a walk does not say where the next one begins
     let next = match (which, answer) {
-        (Placed(_, at), Ok(unit)) => Some(behind(at, unit)),
+        (Placed(_, at), Ok(unit)) => Some(behind(book, at, unit)),
         _ => None,
     };
     let lengths = answer

@@ -1,14 +1,32 @@
-//! The parts of a book, written by the library, or sealed with it one by one.
+//! The parts of a book, written by the library, or by the second implementation where it is of an older kind, or
+//! sealed with the library one by one.
 
-use reference::book::{field, unit_len, Book};
+use reference::book::{field, Book, Kind};
 use reference::random::Random;
-use sealed_book::raw::{book_room, seal, Writer, CLOSE_ROOM, FIRST_UNIT};
+use reference::writer as second;
+use sealed_book::raw::{seal, Writer, FIRST_UNIT};
 
-use super::writing::unit;
+use super::writing::{by_value, unit};
 
-/// A book with so many units, each segment shorter than `end` bytes, which is 2 or more.
+/// A book of any kind that is read, with no units yet.
+pub fn some_book(random: &mut Random, suite: (u8, u8)) -> Book {
+    Book {
+        kind: random.one_of(&Kind::ALL),
+        ..Book::random(random, suite)
+    }
+}
+
+/// A book of each kind, with no units yet.
+pub fn books_of_each_kind(random: &mut Random, suite: (u8, u8)) -> [Book; 2] {
+    Kind::ALL.map(|kind| Book {
+        kind,
+        ..Book::random(random, suite)
+    })
+}
+
+/// A book of any kind with so many units, each segment shorter than `end` bytes, which is 2 or more.
 pub fn random_book(random: &mut Random, suite: (u8, u8), units: usize, end: usize) -> Book {
-    let mut book = Book::random(random, suite);
+    let mut book = some_book(random, suite);
     for _ in 0..units {
         let (s, t) = (1 + random.below(end - 1), random.below(end));
         book.units.push(unit(random, s, t));
@@ -16,23 +34,43 @@ pub fn random_book(random: &mut Random, suite: (u8, u8), units: usize, end: usiz
     book
 }
 
-/// A book with three units of the same lengths.
+/// A book of any kind with three units of the same lengths.
 pub fn three_units(random: &mut Random, suite: (u8, u8)) -> Book {
-    let mut book = Book::random(random, suite);
+    let mut book = some_book(random, suite);
     book.units = (0..3).map(|_| unit(random, 20, 21)).collect();
     book
 }
 
-/// Writes the number into a unit's field 10.
-pub fn renumber(unit: &mut [u8], number: u8) {
-    unit[4] = number;
+/// A number in as many bytes as a unit's number and the count have in this kind; higher ones are lost.
+pub fn number_in(kind: Kind, number: usize) -> Vec<u8> {
+    let bytes = (number as u32).to_be_bytes();
+    bytes[4 - kind.number_bytes()..].to_vec()
 }
 
-/// The book's bytes as the library's writer leaves them, and that writer.
+/// A number that differs from this one in one bit of the bytes that it has in this kind.
+pub fn another(random: &mut Random, kind: Kind, number: usize) -> usize {
+    let bits = match kind {
+        Kind::Tag10 => &[1, 2, 0x100, 0x8000][..],
+        Kind::Tag14 => &[1, 2, 0x100, 0x8000, 0x1_0000, 0x100_0000, 0x8000_0000],
+    };
+    number ^ random.one_of(bits)
+}
+
+/// Writes the low byte of a number into a unit's header, where it stands before the two codes.
+pub fn renumber(unit: &mut [u8], number: u8) {
+    let end = 3 + usize::from(unit[2]);
+    unit[end - 5] = number;
+}
+
+/// The book's bytes as its writer leaves them, and that writer: the library's, or of an older kind the earlier
+/// one, which the second implementation has.
 pub fn written(book: &Book) -> (Vec<u8>, Writer) {
-    let segments = book.units.iter();
-    let segments = segments.map(|unit| unit.source.len() + unit.target.len());
-    let mut buffer = vec![0; book_room(book.units.len(), segments.sum())];
+    let kind = book.kind;
+    let units = book.units.iter().map(|unit| unit.len(kind));
+    let mut buffer = vec![0; FIRST_UNIT + units.sum::<usize>() + kind.close_len()];
+    if kind != Kind::NEWEST {
+        return written_before(book, buffer);
+    }
     let (mut writer, mut answer) =
         Writer::start(book.cipher, book.steps, &book.key, book.number, &mut buffer);
     assert_eq!(answer, Ok(()));
@@ -47,6 +85,23 @@ pub fn written(book: &Book) -> (Vec<u8>, Writer) {
     (buffer, writer)
 }
 
+/// The same by the earlier writer of the book's kind.
+fn written_before(book: &Book, mut buffer: Vec<u8>) -> (Vec<u8>, Writer) {
+    let kind = book.kind;
+    let (mut writer, mut answer) =
+        second::start(book.cipher, book.steps, &book.key, book.number, &mut buffer);
+    assert_eq!(answer, Ok(()));
+    for unit in &book.units {
+        let (source, target) = (&unit.source, &unit.target);
+        (writer, answer) = writer.add_of(kind, &mut buffer, unit.from, unit.to, source, target);
+        assert_eq!(answer, Ok(()));
+    }
+    (writer, answer) = writer.close_of(kind, &mut buffer);
+    assert_eq!(answer, Ok(()));
+    assert_eq!(writer.place, buffer.len() as u64);
+    (buffer, by_value(&writer))
+}
+
 /// A book's fields 01 and 02, its units and its close.
 #[derive(Clone)]
 pub struct Parts {
@@ -56,7 +111,7 @@ pub struct Parts {
 }
 
 impl Parts {
-    /// The parts of the book that the library writes.
+    /// The parts of the book as it is written.
     pub fn of(book: &Book) -> Parts {
         let (bytes, _) = written(book);
         let mut rest = &bytes[..];
@@ -68,8 +123,8 @@ impl Parts {
         let units = book.units.iter();
         Parts {
             opening: cut(FIRST_UNIT),
-            units: units.map(|unit| cut(unit_len(unit))).collect(),
-            close: cut(CLOSE_ROOM),
+            units: units.map(|unit| cut(unit.len(book.kind))).collect(),
+            close: cut(book.kind.close_len()),
         }
     }
 
@@ -81,8 +136,8 @@ impl Parts {
     }
 }
 
-/// Fields 10, 11 and 12 of a unit with this number, these codes and this text, whatever they are, sealed
-/// as the unit of the running number.
+/// The header and fields 11 and 12 of a unit of the book's kind, with this number, these codes and this text,
+/// whatever they are, sealed as the unit of the running number.
 pub fn unit_fields(
     book: &Book,
     running: usize,
@@ -90,22 +145,21 @@ pub fn unit_fields(
     codes: [u8; 4],
     text: &[u8],
 ) -> [Vec<u8>; 3] {
-    let [n1, n0] = (number as u16).to_be_bytes();
-    let [f0, f1, t0, t1] = codes;
-    let head = field(0x10, &[n1, n0, f0, f1, t0, t1]);
+    let value = [&number_in(book.kind, number)[..], &codes].concat();
+    let head = field(book.kind.header_tag(), &value);
     let (ciphertext, tag) = sealed(book, running, &head, text);
     [head, field(0x11, &ciphertext), field(0x12, &tag)]
 }
 
-/// Fields 20 and 12 of a close with this count, sealed as the close after so many units.
+/// Both fields of a close of the book's kind with this count, sealed as the close after so many units.
 pub fn close_fields(book: &Book, units: usize, count: usize) -> [Vec<u8>; 2] {
-    let head = field(0x20, &(count as u16).to_be_bytes());
+    let head = field(book.kind.close_tag(), &number_in(book.kind, count));
     let (_, tag) = sealed(book, units, &head, &[]);
     [head, field(0x12, &tag)]
 }
 
 /// Ciphertext and tag of a text in this book, with fields 01, 02 and one more sealed along.
-fn sealed(book: &Book, number: usize, head: &[u8], text: &[u8]) -> (Vec<u8>, Vec<u8>) {
+pub fn sealed(book: &Book, number: usize, head: &[u8], text: &[u8]) -> (Vec<u8>, Vec<u8>) {
     let opening = [
         field(0x01, &book.number.to_be_bytes()),
         field(0x02, &[book.cipher, book.steps]),

@@ -4,11 +4,12 @@ use reference::book::Book;
 use reference::cipher::SUITES;
 use reference::random::Random;
 
-use super::parts::{close_fields, random_book, unit_fields, Parts};
+use super::parts::{another, close_fields, random_book, unit_fields, Parts};
 use super::spoiling::{bad_ciphertext, bad_codes, bad_text, spoil, text};
 use super::{causes, UNLISTED};
 
-/// The causes in the order in which they are given; the close's are those after `Lengths`.
+/// The causes in the order in which they are given; the close's are those after `Lengths`. `FullBook` is that of
+/// a unit of an old book whose number does not fit into two bytes.
 #[derive(Clone, Copy, Debug, PartialEq)]
 pub enum Cause {
     Key,
@@ -64,9 +65,8 @@ impl causes::Cause for Cause {
             UnitTag | CloseTag => 8,
             Languages => 11,
             Lengths => 12,
-            FullBook => 13,
             OpeningFields | UnitHead | UnitRest | CloseFields | LeftOver => 14,
-            UnitNumber | Count => 15,
+            FullBook | UnitNumber | Count => 15,
         }
     }
 }
@@ -89,7 +89,7 @@ pub fn spoiled(
     };
     let running = before.units.len();
     let number = match has(UnitNumber) {
-        true => running ^ random.one_of(&[1, 2, 0x100, 0x8000]),
+        true => another(random, book.kind, running),
         false => running,
     };
     let codes = match has(Languages) {
@@ -105,7 +105,7 @@ pub fn spoiled(
         }
     };
     let count = match has(Count) {
-        true => (running + 1) ^ random.one_of(&[1, 2, 0x100, 0x8000]),
+        true => another(random, book.kind, running + 1),
         false => running + 1,
     };
     let [head, mut ciphertext, mut tag] = unit_fields(book, running, number, codes, &text);

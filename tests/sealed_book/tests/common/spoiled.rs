@@ -6,7 +6,7 @@ use reference::book::Book;
 use reference::cipher::SUITES;
 use reference::random::Random;
 
-use super::parts::{close_fields, random_book, unit_fields, Parts};
+use super::parts::{another, close_fields, random_book, unit_fields, Parts};
 use super::spoiling::{bad_ciphertext, bad_codes, bad_text, spoil, text};
 use super::{causes, UNLISTED};
 
@@ -79,11 +79,6 @@ pub struct Spoiled {
     pub out_len: usize,
 }
 
-/// A number that differs from this one.
-fn another(random: &mut Random, number: usize) -> usize {
-    number ^ random.one_of(&[1, 2, 0x100, 0x8000])
-}
-
 /// Changes a bit of field 11's value or field 12's.
 fn unseal(random: &mut Random, ciphertext: &mut [u8], tag: &mut [u8]) {
     let sealed = match random.below(2) {
@@ -110,7 +105,7 @@ fn some_unit(
     causes: &UnitCauses,
 ) -> [Vec<u8>; 3] {
     let number = match causes.number {
-        true => another(random, running),
+        true => another(random, book.kind, running),
         false => running,
     };
     let codes = match causes.languages {
@@ -155,6 +150,7 @@ pub fn spoiled(random: &mut Random, set: &[Cause]) -> Spoiled {
     let before = 1 + random.below(3);
     let book = random_book(random, suite, before, 10);
     let mut parts = Parts::of(&book);
+    let ciphertext_at = book.kind.ciphertext_at();
     let key = match has(Key) {
         true => {
             let len = random.one_of(&[0, 1, 15, 17, 32]);
@@ -173,7 +169,7 @@ pub fn spoiled(random: &mut Random, set: &[Cause]) -> Spoiled {
     let some = |random: &mut Random| random.below(2) == 0;
     for unit in &mut parts.units {
         if some(random) {
-            let at = 12 + random.below(unit.len() - 12 - 19);
+            let at = ciphertext_at + random.below(unit.len() - ciphertext_at - 19);
             unit[at] ^= 1 << random.below(8);
         }
     }
@@ -199,7 +195,7 @@ pub fn spoiled(random: &mut Random, set: &[Cause]) -> Spoiled {
     let [head, ciphertext, tag] = unit;
     let units = before + usize::from(!has(NoUnit));
     let count = match has(Count) {
-        true => another(random, units),
+        true => another(random, book.kind, units),
         false => units,
     };
     let [close_head, mut close_tag] = close_fields(&book, units, count);
@@ -255,7 +251,7 @@ pub fn spoiled(random: &mut Random, set: &[Cause]) -> Spoiled {
         spoil(random, &mut fields, at);
     }
     let running = before as u64;
-    let farther = [0, 1, 2, 0x1_0000 - running, 0x1_0000, 1 << 32];
+    let farther = [0, 1, 2, 0x1_0000 - running, 0x1_0000, 0xFF_FFFF, 1 << 32];
     Spoiled {
         key,
         book: fields.concat(),
@@ -266,7 +262,7 @@ pub fn spoiled(random: &mut Random, set: &[Cause]) -> Spoiled {
         },
         running,
         place,
-        part: place + 12..place + 12 + m,
+        part: place + ciphertext_at..place + ciphertext_at + m,
         out_len: match has(Room) || has(NoUnit) && some(random) {
             true => random.below(m.saturating_sub(2).max(1)),
             false => m + random.below(9),

@@ -1,9 +1,9 @@
 //! Parts of a book that are refused, each for one cause; and damage at random.
 
-use reference::book::{field, Book};
+use reference::book::{field, Book, Kind};
 use reference::random::Random;
 
-use super::parts::{close_fields, unit_fields};
+use super::parts::{close_fields, number_in, unit_fields};
 use super::UNLISTED;
 
 /// Four letters that are no allowed pair.
@@ -46,7 +46,9 @@ pub fn spoil(random: &mut Random, fields: &mut Vec<Vec<u8>>, at: usize) {
     let one = &mut fields[at];
     match random.below(4) {
         0 => {
-            let tags = [0x00, 0x01, 0x02, 0x10, 0x11, 0x12, 0x20, 0x21, 0xFF];
+            let tags = [
+                0x00, 0x01, 0x02, 0x10, 0x11, 0x12, 0x14, 0x15, 0x20, 0x21, 0xFF,
+            ];
             let others: Vec<u8> = tags.into_iter().filter(|tag| *tag != one[0]).collect();
             one[0] = random.one_of(&others);
         }
@@ -71,7 +73,7 @@ pub fn damage(random: &mut Random, book: &mut Vec<u8>, other: &[u8]) {
     let at = random.below(book.len());
     match random.below(8) {
         0 => book[at] ^= 1 << random.below(8),
-        1 => book[at] = random.one_of(&[0x00, 0x01, 0x02, 0x10, 0x11, 0x12, 0x20, 0xFF]),
+        1 => book[at] = random.one_of(&[0x00, 0x01, 0x10, 0x11, 0x12, 0x14, 0x20, 0x21, 0xFF]),
         2 => book.truncate(at),
         3 => drop(book.remove(at)),
         4 => book.insert(at, random.below(256) as u8),
@@ -95,7 +97,7 @@ pub fn damage(random: &mut Random, book: &mut Vec<u8>, other: &[u8]) {
 }
 
 /// Opening fields, some units and perhaps a close, in each of which most, but not all, is as it must be:
-/// most seals are not.
+/// most seals are not, and now and then a kind is not the book's.
 pub fn some_frames(random: &mut Random, book: &Book) -> Vec<u8> {
     let rarely = |random: &mut Random| random.below(24) == 0;
     let mut suite = (book.cipher, book.steps);
@@ -107,7 +109,15 @@ pub fn some_frames(random: &mut Random, book: &Book) -> Vec<u8> {
         field(0x02, &[suite.0, suite.1]),
     ];
     let units = random.below(5);
+    let some_kind = |random: &mut Random| Book {
+        kind: match rarely(random) {
+            true => random.one_of(&Kind::ALL),
+            false => book.kind,
+        },
+        ..book.clone()
+    };
     for running in 0..units {
+        let book = &some_kind(random);
         let number = running ^ usize::from(rarely(random));
         let codes = match rarely(random) {
             true => bad_codes(random),
@@ -122,16 +132,15 @@ pub fn some_frames(random: &mut Random, book: &Book) -> Vec<u8> {
             let text = text(random, s, m);
             fields.extend(unit_fields(book, running, number, codes, &text));
         } else {
-            let mut head = field(0x10, &[0, number as u8, 0, 0, 0, 0]);
-            head[5..].copy_from_slice(&codes);
-            fields.push(head);
+            let value = [&number_in(book.kind, number)[..], &codes].concat();
+            fields.push(field(book.kind.header_tag(), &value));
             fields.push(field(0x11, &random.some_bytes(m)));
             fields.push(field(0x12, &random.bytes::<16>()));
         }
     }
     if !rarely(random) {
         let count = units ^ usize::from(rarely(random));
-        let [head, mut tag] = close_fields(book, units, count);
+        let [head, mut tag] = close_fields(&some_kind(random), units, count);
         if rarely(random) {
             tag[3 + random.below(16)] ^= 1 << random.below(8);
         }
@@ -148,20 +157,23 @@ pub fn some_frames(random: &mut Random, book: &Book) -> Vec<u8> {
     fields.concat()
 }
 
-/// Bytes that are changed in a book with one unit, and what is then said of it as unit 65,535 or a later
-/// one: 13 comes before its number, its languages and the rest are looked at, and behind its header's field
-/// and all of the opening fields.
-pub const TOO_MANY: [(usize, u8, u32); 9] = [
-    (20, 1, 13),
-    (21, 0, 13),
-    (25, 0, 13),
-    (27, 2, 13),
-    (16, 0x11, 14),
-    (18, 7, 14),
-    (15, 5, 1),
-    (14, 0, 1),
-    (13, 3, 14),
-];
+/// Bytes that are changed in a book of this kind with one unit, and what is then said of it as unit 16,777,215 or
+/// a later one: 13 comes before its number, its languages and the rest are looked at, and behind its header's
+/// field and all of the opening fields.
+pub fn too_many(kind: Kind) -> [(usize, u8, u32); 9] {
+    let codes = 19 + kind.number_bytes();
+    [
+        (codes - 1, 1, 13),
+        (codes, 0, 13),
+        (codes + 4, 0, 13),
+        (codes + 6, 2, 13),
+        (16, 0x11, 14),
+        (18, 7, 14),
+        (15, 5, 1),
+        (14, 0, 1),
+        (13, 3, 14),
+    ]
+}
 
 /// Books that are refused for their opening fields, or end behind these, with the refusal, whatever else
 /// they are asked for. They are made from this one.
@@ -181,6 +193,19 @@ pub fn bad_openings(bytes: &[u8]) -> [(Vec<u8>, u32); 5] {
         (with(&[(15, 0), (11, 0x12)]), 14),
     ]
 }
+
+/// Numbers of units: small ones, one past two bytes, those at the limit, and larger ones.
+pub const SOME_NUMBERS: [u64; 9] = [
+    0,
+    1,
+    2,
+    3,
+    0x1_0000,
+    16_777_214,
+    16_777_215,
+    1 << 32,
+    u64::MAX,
+];
 
 /// Places of a book of so many bytes, and many past its end: such as would be these places in fewer bits, and
 /// the last that there are.

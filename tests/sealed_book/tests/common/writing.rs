@@ -3,7 +3,7 @@
 use std::hint::black_box;
 use std::ptr::null_mut;
 
-use reference::book::{Book, Unit};
+use reference::book::{Book, Kind, Unit};
 use reference::random::Random;
 use reference::writer as second;
 use reference::writer::Answer;
@@ -58,8 +58,8 @@ impl Call {
     pub fn len(&self) -> usize {
         match self {
             Call::Start { .. } => 16,
-            Call::Add(unit) => 33 + unit.source.len() + unit.target.len(),
-            Call::Close => 24,
+            Call::Add(unit) => unit.len(Kind::NEWEST),
+            Call::Close => Kind::NEWEST.close_len(),
         }
     }
 
@@ -253,7 +253,7 @@ impl Desk {
         let (mut bytes, mut calls) = book.laid_out();
         let writer = self.value();
         if !writer.closed {
-            bytes.truncate(bytes.len() - 24);
+            bytes.truncate(bytes.len() - Call::Close.len());
             calls -= 3;
         }
         let place = self.place();
@@ -265,7 +265,7 @@ impl Desk {
 }
 
 /// The reference's writer as the library's.
-fn by_value(writer: &second::Writer) -> Writer {
+pub fn by_value(writer: &second::Writer) -> Writer {
     Writer {
         cipher: writer.cipher,
         steps: writer.steps,

@@ -7,7 +7,7 @@ use lib.Seq.{length-take-le}
 use Rattle.suites.specs.declared.refusal.Answer.{Answer}
 use Rattle.kinds.specs.Kind.{kindOf, bookKind}
 use Rattle.parser.specs.Frame.{mostUnits}
-use Rattle.parser.specs.Opening.{openingBytes, afterOpening}
+use Rattle.opening_fields.specs.Opening.{openingBytes, afterOpening}
 use Rattle.bits.proofs.Lists.{part-rest}
 use Rattle.seals.specs.Parts.{Under}
 use Rattle.seals.proofs.Tested.{tested-under}

@@ -7,7 +7,7 @@ use lib.ListN.{length, take, drop, length-drop}
 use lib.Seq.{length-take-le}
 use Rattle.kinds.specs.Kind.{kindOf}
 use Rattle.parser.specs.Frame.{frameAt}
-use Rattle.parser.specs.Opening.{openingBytes}
+use Rattle.opening_fields.specs.Opening.{openingBytes}
 use Rattle.bits.proofs.Lists.{part-rest}
 use Rattle.seals.proofs.Tested.{tested-under}
 use Rattle.walk.proofs.Places.{drop-least}

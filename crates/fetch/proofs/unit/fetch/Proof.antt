@@ -6,7 +6,7 @@ use lib.ListN.{length, take, drop, length-drop}
 use Rattle.suites.specs.declared.refusal.Answer.the-variants.{Done, Refused}
 use Rattle.kinds.specs.Kind.{kindOf, bookKind}
 use Rattle.parser.specs.Frame.{frameAt}
-use Rattle.parser.specs.Opening.{openingBytes, afterOpening, checkTests}
+use Rattle.opening_fields.specs.Opening.{openingBytes, afterOpening, checkTests}
 use Rattle.bits.proofs.Lists.{part-rest}
 use Rattle.seals.proofs.Tested.{tested-under}
 use Rattle.walk.specs.Walk.{walkTo}

@@ -5,7 +5,7 @@ use lib.ListN.{length, drop}
 use Rattle.suites.specs.declared.refusal.Answer.the-variants.{Done, Refused}
 use Rattle.kinds.specs.Kind.{kindOf, bookKind}
 use Rattle.parser.specs.Frame.{frameAt}
-use Rattle.parser.specs.Opening.{openingBytes, checkTests}
+use Rattle.opening_fields.specs.Opening.{openingBytes, checkTests}
 use Rattle.fetch.specs.Fetch.{outcomeHere, textAt, nextOf, placedAnswer, placedBuffer}
 use Rattle.fetch.proofs.Handed.{next-same, tests-hand}
 use Rattle.fetch.proofs.unit.fetch_placed.Statement.{statement}

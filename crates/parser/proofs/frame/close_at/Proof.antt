@@ -10,7 +10,7 @@ use Rattle.fields.proofs.Fields.{field-told}
 use Rattle.kinds.specs.Kind.{kindOf}
 use Rattle.kinds.specs.Lengths.{closeHeaderLength}
 use Rattle.parser.specs.Frame.{frameNumber, closeTests}
-use Rattle.parser.proofs.Read.{found, missed, after-is}
+use Rattle.fields.proofs.Values.{found, missed, after-is}
 use Rattle.parser.proofs.frame.close_at.Statement.{statement}
 use Rattle.parser.proofs.frame.close_at.Tie as tie
 

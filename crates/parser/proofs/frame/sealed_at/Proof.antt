@@ -9,7 +9,7 @@ use Rattle.fields.specs.Field.{fieldLength, hasField, afterField}
 use Rattle.fields.proofs.Reading.{length-is, bytes-missing}
 use Rattle.fields.proofs.Fields.{field-told}
 use Rattle.parser.specs.Frame.{ciphertextAllowed, hasSealed}
-use Rattle.parser.proofs.Read.{found, missed, after-is}
+use Rattle.fields.proofs.Values.{found, missed, after-is}
 use Rattle.parser.proofs.frame.sealed_at.Statement.{statement}
 use Rattle.parser.proofs.frame.sealed_at.Tie as tie
 

@@ -15,7 +15,7 @@ use Rattle.kinds.specs.Kind.{kindOf}
 use Rattle.kinds.specs.Lengths.{headerBytes, headerLength}
 use Rattle.parser.specs.declared.frame.Frame.the-variants.{Unit}
 use Rattle.parser.specs.Frame.{frameNumber, afterHeader, hasSealed, unitTests, frameOf}
-use Rattle.parser.proofs.Read.{found, missed, after-is}
+use Rattle.fields.proofs.Values.{found, missed, after-is}
 use Rattle.parser.proofs.frame.unit_at.Statement.{statement}
 use Rattle.parser.proofs.frame.unit_at.Tie as tie
 
@@ -36,8 +36,8 @@ room c =
     let a = c .before .before .before .before .before .args in
     field-told (kindOf (a .kind) .headerTag) (headerBytes (kindOf (a .kind))) (a .s .now) (first c) .0
 
-second : (c : tie.Else2) → ltb (c .before .before .before .before .before .before .args .n) 65535 ≡ true
-second c = lt-ltb (c .before .before .before .before .before .before .args .n) 65535 (c .if2 .left)
+second : (c : tie.Else2) → ltb (c .before .before .before .before .before .before .args .n) 16777215 ≡ true
+second c = lt-ltb (c .before .before .before .before .before .before .args .n) 16777215 (c .if2 .left)
 
 third : (c : tie.Else3) → let a = c .before .before .before .before .before .before .before .before .args in
     eqb (frameNumber (kindOf (a .kind)) (a .s .now)) (a .n) ≡ true
@@ -51,7 +51,7 @@ returns c = rw (missed (asked (c .before)) (c .if1 .taken))
 
 returns-2 : tie.Need-returns-2
 unfolding unitTests
-returns-2 c = rw (first (c .before), le-ltb (c .before .before .before .before .before .before .args .n) 65535 (c .if2 .taken))
+returns-2 c = rw (first (c .before), le-ltb (c .before .before .before .before .before .before .args .n) 16777215 (c .if2 .taken))
 
 number-at-requires : tie.Need-number-at-requires
 number-at-requires c κs = let h = room (c .before) in search needs

@@ -7,9 +7,9 @@ use lib.ListN.{length, drop, length-drop}
 use Rattle.suites.specs.declared.refusal.Answer.{Answer}
 use Rattle.kinds.specs.Kind.{kindOf, bookKind}
 use Rattle.parser.specs.Frame.{frameAt}
-use Rattle.parser.specs.Opening.{afterOpening}
+use Rattle.opening_fields.specs.Opening.{afterOpening}
 use Rattle.bits.proofs.Lists.{part-rest}
-use Rattle.parser.proofs.Openings.{opening-passed}
+use Rattle.opening_fields.proofs.Openings.{opening-passed}
 use Rattle.walk.specs.declared.Place.{Place}
 use Rattle.walk.specs.Walk.{walkTo}
 use Rattle.walk.specs.Clear.{clearOf, clearUnless, placedClearOf, placedClear, unitClearOf, unitClear}
