@@ -161,7 +161,8 @@ module _ (key x : List ℕ) where
   any-kinds : (k₁ k₂ : BookKind) → k₁ ≡ k₂ → (h₁ : History (kindOf k₁)) (h₂ : History (kindOf k₂)) → LeavesBook h₁ key x → LeavesBook h₂ key x
       → unitsAdded h₁ ≡ unitsAdded h₂
   any-kinds k₁ k₂ e =
-      subst (λ (k : BookKind). (h₁ : History (kindOf k₁)) (h₂ : History (kindOf k)) → LeavesBook h₁ key x → LeavesBook h₂ key x → unitsAdded h₁ ≡ unitsAdded h₂) e
+      subst (λ (k : BookKind). (h₁ : History (kindOf k₁)) (h₂ : History (kindOf k))
+      → LeavesBook h₁ key x → LeavesBook h₂ key x → unitsAdded h₁ ≡ unitsAdded h₂) e
       (λ h₁ h₂ l₁ l₂. one-kind k₁ h₁ h₂ (l₁ .under ∙ sym (l₂ .under)) (l₁ .string ∙ sym (l₂ .string)))
 
   one-book : (k₁ k₂ : BookKind) (h₁ : History (kindOf k₁)) (h₂ : History (kindOf k₂)) → LeavesBook h₁ key x → LeavesBook h₂ key x

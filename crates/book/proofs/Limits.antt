@@ -6,9 +6,9 @@ use mathlib.Core.Logic.{_≢_}
 use Prim.Native.Nat.{ℕ, zero, suc, _+_, _-_, _^_, _≤_, _<_}
 use native.Mathlib.Nat.{add-zero, add-suc}
 use native.Mathlib.Omega.{arith}
-use borrow.Author.Tests.{eqb-true, eq-eqb, ne-eqb, lt-ltb, ltb-true, ltb-false}
-use lib.Dec.{eqb, leb, ltb}
-use lib.ListN.{length, getD}
+use borrow.Author.Tests.{eq-eqb, ne-eqb, lt-ltb, ltb-true, ltb-false}
+use lib.Dec.{eqb, ltb}
+use lib.ListN.{length}
 use Rattle.bits.specs.Bytes.{Bytes}
 use Rattle.bits.proofs.Bytes.{bytes-drop}
 use Rattle.suites.specs.declared.refusal.Answer.{Answer}
@@ -61,7 +61,7 @@ use Rattle.parser.specs.Frame.{
   frameAt,
 }
 use Rattle.opening_fields.specs.Opening.{hasOpening, openingNumber, openingSuite, openingBytes, afterOpening, openingTests, checkTests}
-use Rattle.parser.proofs.Frames.{number-fits}
+use Rattle.parser.proofs.Frames.{number-fits, no-header}
 use Rattle.opening_fields.proofs.Openings.{opening-here, front-here, front-says}
 use Rattle.seals.specs.Seal.{unitAgrees, unitOpened, closeAgrees, unitSealTests, closeSealTests}
 use Rattle.checker.specs.Check.{checkTold, withSeal, checkedAt, byFrame, checkFrom, afterTests, checkAnswerOf, checkAnswer}
@@ -151,11 +151,11 @@ module _ (kind : Kind) (key o : List ℕ) (n : ℕ) (s : List ℕ) where
 
 -- what begins with a unit's header does not begin as a close
 header-begins : (kind : Kind) → WellFormed kind → (s : List ℕ) → headerThere kind s ≡ true → beginsClose kind s ≡ false
-unfolding beginsClose hasField
-header-begins kind wf s there =
-    let long = and-eq-true-iff (leb (3 + headerBytes kind) (length s)) _ .0 there .1 in
-    let tag = eqb-true (getD s 0 0) (kind .headerTag) (and-eq-true-iff (eqb (getD s 0 0) (kind .headerTag)) _ .0 long .0) in
-    ne-eqb (getD s 0 0) (kind .closeTag) (λ q. wf .tagsDiffer (sym tag ∙ q))
+header-begins kind wf s there = by (beginsClose kind s) refl
+  where
+    by : (v : Bool) → beginsClose kind s ≡ v → v ≡ false
+    by true e = sym there ∙ no-header kind wf 0 s e
+    by false e = refl
 
 -- 15 where the fields are there, else 14
 abbrev past-refusal : Bool → Refusal
@@ -220,7 +220,8 @@ module _ (kind : Kind) (small : 256 ^ kind .numberBytes < mostUnits) (key o : Li
   unfolding checkFrom
   other-from zero n total s b in-room enough = absurd (omega arith)
   other-from (suc left) n total s b in-room enough =
-      other-at n total s (λ (m : ℕ). checkFrom kind key o left (suc n) (total + unitCalls kind m) (afterUnit kind m s)) (checkedAt kind key o n s) b in-room refl
+      other-at n total s (λ (m : ℕ). checkFrom kind key o left (suc n) (total + unitCalls kind m) (afterUnit kind m s))
+      (checkedAt kind key o n s) b in-room refl
       (λ m fits. other-from left (suc n) (total + unitCalls kind m) (afterUnit kind m s) (bytes-rest kind s b m) (omega arith) (omega arith))
 
 -- the tests before the frames
@@ -315,7 +316,8 @@ one-kind-law =
           (λ t. from-step (kindOf k) key o (mostUnits - n) n t rest _ (neither-checked (kindOf k) n rest begins there key o)));
     }
 
-old-refused : (v : Bool) (n t : ℕ) (rest : ℕ → CheckAnswer) → checkTold (byFrame (FrameRefused (cond v NumberOutOfOrder FieldMalformed)) rest (Accepted n t)) ≡ refuses (cond v 15 14)
+old-refused : (v : Bool) (n t : ℕ) (rest : ℕ → CheckAnswer)
+    → checkTold (byFrame (FrameRefused (cond v NumberOutOfOrder FieldMalformed)) rest (Accepted n t)) ≡ refuses (cond v 15 14)
 old-refused true n t rest = refl
 old-refused false n t rest = refl
 

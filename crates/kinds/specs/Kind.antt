@@ -24,6 +24,6 @@ newest = Tag14
 unfoldable pub kindBy : ℕ → BookKind
 kindBy b = cond (eqb b 0x10 || eqb b 0x20) Tag10 Tag14
 
--- the kind of the book s, by that byte; the opening fields have 16 bytes
+-- "one kind per book": the kind of the book s, by that byte; the opening fields have 16 bytes
 unfoldable pub bookKind : List ℕ → BookKind
 bookKind s = kindBy (getD s 16 0)

@@ -263,11 +263,15 @@ module _ (kind : Kind) (n : ℕ) (s : List ℕ) where
 
 -- a frame's ciphertext has the length of the unit's there: what begins as a close is no unit
 module _ (kind : Kind) (wf : WellFormed kind) (n : ℕ) (s : List ℕ) where
-  no-unit : beginsClose kind s ≡ true → unitTests kind n s ≡ Refused FieldMalformed
-  unfolding beginsClose unitTests hasField
-  no-unit e =
+  pub no-header : beginsClose kind s ≡ true → hasField (kind .headerTag) (headerBytes kind) s ≡ false
+  unfolding beginsClose hasField
+  no-header e =
       let tag = eqb-true (getD s 0 0) (kind .closeTag) e in
       rw (ne-eqb (getD s 0 0) (kind .headerTag) (λ q. wf .tagsDiffer (sym q ∙ tag)), and-false) refl
+
+  no-unit : beginsClose kind s ≡ true → unitTests kind n s ≡ Refused FieldMalformed
+  unfolding unitTests
+  no-unit e = rw (no-header e) refl
 
   close-length : (a : Answer) → ciphertextLength (frameOf a Close) ≡ 0
   close-length Done = refl

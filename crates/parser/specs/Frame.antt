@@ -28,7 +28,7 @@ mostUnits = 16777215
 abbrev pub ciphertextAllowed : ℕ → Bool
 ciphertextAllowed m = leb 3 m && leb m 8194
 
--- the number that a unit's header or a close states
+-- the number that a unit's header or a close states, in as many bytes as the kind has: "an old number means the same number after widening"
 unfoldable pub frameNumber : Kind → List ℕ → ℕ
 frameNumber kind s = numberOf (take (kind .numberBytes) (drop 3 s))
 
