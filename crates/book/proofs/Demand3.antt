@@ -19,10 +19,10 @@ use Rattle.fields.specs.Unit.{BookUnit, Allowed}
 use Rattle.fields.proofs.Each.{each-append}
 use Rattle.format.proofs.Lengths.{length-unitsBytes, length-bookBytes}
 use Rattle.format.proofs.One.{laid-one}
-use Rattle.writer.specs.History.{add, Callable, adds, closes, Start, started, hasClose, sealings}
-use Rattle.writer.specs.Left.{laidOut, sealedOf, Leaves as WriterLeaves, writing}
-use Rattle.writer.proofs.Left.{writer-half}
-use Rattle.writer.proofs.Passed.{start-passes}
+use Rattle.writer_calls.specs.History.{add, Callable, adds, closes, Start, started, hasClose, sealings}
+use Rattle.writer_calls.specs.Left.{laidOut, sealedOf, Leaves as WriterLeaves, writing}
+use Rattle.writer_calls.proofs.Left.{writer-half}
+use Rattle.writer_state.proofs.Passed.{start-passes}
 use Rattle.checker.specs.Check.{checkAnswer, checkTold}
 use Rattle.checker.specs.Exact.{bookSealings, IsBook}
 use Rattle.checker.proofs.BookKinds.{is-own, unit-kind}

@@ -1,7 +1,7 @@
 -- Demand 3, as a statement over the definitions in the contracts of `start`, `add`, `close` and `check`; proofs/Demand3 proves it.
 -- It speaks of every kind of book that can be read: the lists of a kind are those of the writer of that kind. The contracts of start, add and
 -- close speak of `writerKind`, that of check of every kind. A comment for each clause has the demand's words. Lists of calls, and what they
--- leave, are those of crates/writer/specs/History.
+-- leave, are those of crates/writer_calls/specs/History.
 use mathlib.Core.Path.{_≡_}
 use mathlib.Core.Bool.{true}
 use mathlib.Core.Logic.{_↔_}
@@ -16,8 +16,8 @@ use Rattle.format.specs.Sealings.{cipherCalls, callTotal}
 use Rattle.fields.specs.Unit.{BookUnit}
 use Rattle.kinds.specs.declared.Kind.{Kind as BookKind}
 use Rattle.kinds.specs.Kind.{kindOf, newest}
-use Rattle.writer.specs.History.{Call, Callable, State, Start, started, afterCalls, units, hasClose, sealings}
-use Rattle.writer.specs.Left.{WriterHalf}
+use Rattle.writer_calls.specs.History.{Call, Callable, State, Start, started, afterCalls, units, hasClose, sealings}
+use Rattle.writer_calls.specs.Left.{WriterHalf}
 use Rattle.checker.specs.Check.{checkAnswer, checkTold}
 
 -- "Take every list of add and close calls, refused ones included, from an accepted start. Each call gets the writer last handed back and the

@@ -13,12 +13,12 @@ use Rattle.bits.specs.Bytes.{Bytes}
 use Rattle.checker.specs.Check.{checkAnswer, checkTold}
 use Rattle.kinds.specs.Kind.{kindOf, bookKind, newest}
 use Rattle.kinds.proofs.Formed.{formed}
-use Rattle.writer.specs.Writer.{startWriter, startBuffer}
-use Rattle.writer.specs.History.{Call, Callable, State, outcome, afterCall, afterCalls, Start, started, hasClose, sealings, units}
-use Rattle.writer.specs.Left.{Leaves}
-use Rattle.writer.proofs.Brings.{refused}
-use Rattle.writer.proofs.Left.{writer-half}
-use Rattle.writer.proofs.Passed.{valid-told}
+use Rattle.writer_calls.specs.Writer.{startWriter, startBuffer}
+use Rattle.writer_calls.specs.History.{Call, Callable, State, outcome, afterCall, afterCalls, Start, started, hasClose, sealings, units}
+use Rattle.writer_calls.specs.Left.{Leaves}
+use Rattle.writer_calls.proofs.Brings.{refused}
+use Rattle.writer_calls.proofs.Left.{writer-half}
+use Rattle.writer_state.proofs.Passed.{valid-told}
 use Rattle.writer_bytes.specs.WriterBytes.{writerOf, writerBytes}
 use Rattle.writer_bytes.proofs.RoundTrip.{writerOf-writerBytes}
 use Rattle.returned.specs.Returned.{returned}

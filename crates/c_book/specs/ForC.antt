@@ -12,9 +12,9 @@ use Rattle.fields.specs.Kind.{Kind, writerKind}
 use Rattle.kinds.specs.Kind.{kindOf, bookKind}
 use Rattle.format.specs.Sealings.{cipherCalls, callTotal}
 use Rattle.suites.specs.declared.suite.Suite.{Suite}
-use Rattle.writer.specs.declared.Writer.{Writer}
-use Rattle.writer.specs.Left.{startAnswerTo}
-use Rattle.writer.specs.History.{Call, State, outcome, afterCall, started, hasClose, sealings}
+use Rattle.writer_state.specs.declared.Writer.{Writer}
+use Rattle.writer_calls.specs.Left.{startAnswerTo}
+use Rattle.writer_calls.specs.History.{Call, State, outcome, afterCall, started, hasClose, sealings}
 use Rattle.writer_bytes.specs.WriterBytes.{writerOf}
 use Rattle.checker.specs.Check.{checkAnswer, checkTold}
 use Rattle.book.specs.Demand3.{History, after, unitsAdded}

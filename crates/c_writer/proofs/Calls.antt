@@ -8,8 +8,8 @@ use Rattle.suites.specs.declared.refusal.Refusal.{Refusal}
 use Rattle.suites.specs.Refusal.{number}
 use Rattle.suites.specs.Told.{byAnswer}
 use Rattle.fields.specs.Kind.{writerKind}
-use Rattle.writer.specs.declared.Writer.{Writer}
-use Rattle.writer.specs.History.{Call, State, state, afterCall, Answers}
+use Rattle.writer_state.specs.declared.Writer.{Writer}
+use Rattle.writer_calls.specs.History.{Call, State, state, afterCall, Answers}
 use Rattle.writer_bytes.specs.WriterBytes.{writerOf, writerBytes}
 use Rattle.returned.specs.Returned.{returned}
 use Rattle.c_writer.specs.Written.{Kept, kept, stateOf, CallsForC}

@@ -6,8 +6,9 @@ use lib.ListN.{length}
 use Rattle.suites.specs.declared.suite.Suite.{Suite}
 use Rattle.suites.specs.Told.{byAnswer}
 use Rattle.fields.specs.Kind.{writerKind}
-use Rattle.writer.specs.History.{Call, State, outcome, afterCall}
-use Rattle.writer.specs.Writer.{startOutcome, startWriter, startBuffer}
+use Rattle.writer_calls.specs.History.{Call, State, outcome, afterCall}
+use Rattle.writer_state.specs.Tests.{startOutcome}
+use Rattle.writer_calls.specs.Writer.{startWriter, startBuffer}
 use Rattle.writer_bytes.specs.WriterBytes.{writerOf, writerBytes}
 use Rattle.returned.specs.Returned.{returned}
 

@@ -2,10 +2,10 @@
 use returned::code;
 use suites::refusal::Answer;
 use suites::suite::Suite;
-use writer::Writer;
+use writer::Written;
 ghost use mathlib.Core.Path.{_≡_};
 ghost use Rattle.fields.specs.Unit.{unitOf};
-ghost use Rattle.writer.specs.History.{add, close};
+ghost use Rattle.writer_calls.specs.History.{add, close};
 ghost use Rattle.writer_bytes.specs.WriterBytes.{writerOf};
 ghost use Rattle.returned.specs.Returned.{suiteOf};
 ghost use Rattle.c_writer.specs.Written.{kept, CallsForC, StartsForC};
@@ -22,7 +22,7 @@ pub extern "C" fn sb_start(
     ensures { λ r. ⌜ StartsForC (suiteOf cipher steps) (now (key .entry)) number (now (buf .entry))
         r (kept (now (writer .exit)) (now (buf .exit))) ⌝ }
 {
-    let done = Writer::start(Suite { cipher, steps }, key, number, buf);
+    let done = Written::start(Suite { cipher, steps }, key, number, buf);
     let w = done.writer;
     let b = writer_bytes::to_bytes(w);
     *writer = b;
@@ -43,7 +43,11 @@ pub extern "C" fn sb_add(
         (kept (now (writer .entry)) (now (buf .entry))) r (kept (now (writer .exit)) (now (buf .exit))) ⌝ }
 {
     let w = writer_bytes::from_bytes(*writer);
-    let done = w.add(*from, *to, source, target, buf);
+    let held = Written {
+        answer: Answer::Done,
+        writer: w,
+    };
+    let done = held.add(*from, *to, source, target, buf);
     let answer = done.answer;
     let next = done.writer;
     match answer {
@@ -62,7 +66,11 @@ pub extern "C" fn sb_close(writer: &mut [u8; 64], buf: &mut [u8]) -> u32
         (kept (now (writer .entry)) (now (buf .entry))) r (kept (now (writer .exit)) (now (buf .exit))) ⌝ }
 {
     let w = writer_bytes::from_bytes(*writer);
-    let done = w.close(buf);
+    let held = Written {
+        answer: Answer::Done,
+        writer: w,
+    };
+    let done = held.close(buf);
     let answer = done.answer;
     let shut = done.writer;
     match answer {

@@ -22,8 +22,17 @@ use Rattle.format.specs.Sealings.{openingFields, unitHeader, unitSealing, seale
 use Rattle.fields.specs.Unit.{BookUnit, Allowed, unitOf, detailsOf, detailsLength, inRange, unitText, sourceLength, sourceOf, targetOf, textInRange}
 use Rattle.fields.proofs.Details.{length-detailsOf}
 use Rattle.kinds.specs.Lengths.{headerBytes}
-use Rattle.format.proofs.Lengths.{length-unitSealed, range-told}
-use Rattle.fields.proofs.Texts.{length-unitText, bytes-unitText, sourceLength-unitText, inRange-unitText, length-sourceOf, length-targetOf, text-held}
+use Rattle.format.proofs.Lengths.{length-unitSealed}
+use Rattle.fields.proofs.Texts.{
+  range-told,
+  length-unitText,
+  bytes-unitText,
+  sourceLength-unitText,
+  inRange-unitText,
+  length-sourceOf,
+  length-targetOf,
+  text-held,
+}
 use Rattle.parser.specs.declared.frame.Frame.{Frame}
 use Rattle.parser.specs.declared.frame.Frame.the-variants.{Unit}
 use Rattle.parser.specs.Frame.{mostUnits, frameDetails, frameFrom, frameTo, afterHeader, frameSealed, afterUnit, frameOf, frameAt}

@@ -18,10 +18,10 @@ use Rattle.limits.proofs.Passed.{unless-passed}
 use Rattle.sealing.specs.Seal.{written}
 use Rattle.fields.specs.Kind.{Kind}
 use Rattle.fields.specs.Unit.{BookUnit, unitText, sourceOf, targetOf}
+use Rattle.fields.proofs.Texts.{range-told}
 use Rattle.kinds.specs.Kind.{kindOf, bookKind}
 use Rattle.format.specs.Layout.{unitBytes}
 use Rattle.format.specs.Sealings.{openingFields}
-use Rattle.format.proofs.Lengths.{range-told}
 use Rattle.parser.specs.declared.frame.Frame.{Frame}
 use Rattle.parser.specs.declared.frame.Frame.the-variants.{Unit, Close, Refused as FrameRefused}
 use Rattle.parser.specs.Frame.{afterUnit, frameOf, frameAt}

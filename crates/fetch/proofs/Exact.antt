@@ -13,9 +13,10 @@ use Rattle.fields.specs.Field.{field}
 use Rattle.fields.specs.Kind.{Kind}
 use Rattle.fields.specs.Unit.{BookUnit, Allowed, unitText}
 use Rattle.fields.proofs.Each.{eachFrom-left, eachFrom-at}
+use Rattle.fields.proofs.Texts.{range-told}
 use Rattle.format.specs.Layout.{unitBytes, closeBytes, unitsBytes, bookBytes, Bookable}
 use Rattle.format.specs.Sealings.{openingFields, unitSealing, sealedBytes}
-use Rattle.format.proofs.Lengths.{length-openingFields, range-told, unitsBytes-snoc}
+use Rattle.format.proofs.Lengths.{length-openingFields, unitsBytes-snoc}
 use Rattle.suites.specs.declared.refusal.Answer.{Answer}
 use Rattle.suites.specs.declared.refusal.Answer.the-variants.{Done, Refused}
 use Rattle.sealing.specs.Seal.{written}

@@ -13,6 +13,13 @@ use Rattle.bits.proofs.BigEndian.{length-bigEndian, bytes-bigEndian, bigEndian-
 use Rattle.bits.proofs.Bytes.{bytes-append, bytes-take}
 use Rattle.fields.specs.Unit.{inRange, unitText, sourceLength, sourceOf, targetOf, textInRange}
 
+-- the range that s and t are in
+pub range-told : (s t : ℕ) → inRange s t ≡ true → (1 ≤ s) × (s ≤ 4096) × (t ≤ 4096)
+range-told s t e =
+    let low = and-eq-true-iff (leb 1 s) (leb s 4096 && leb t 4096) .0 e in
+    let high = and-eq-true-iff (leb s 4096) (leb t 4096) .0 (low .1) in
+    (leb-true 1 s (low .0), leb-true s 4096 (high .0), leb-true t 4096 (high .1))
+
 pub length-unitText : (s t : List ℕ) → length (unitText s t) ≡ 2 + (length s + length t)
 unfolding unitText
 length-unitText s t =

@@ -19,8 +19,8 @@ use Rattle.fields.specs.Kind.{Kind, WellFormed}
 use Rattle.format.specs.Sealings.{Sealing, nonceOf, unitSealing, closeSealing, unitSealings, sealingCalls, cipherCalls}
 use Rattle.fields.specs.Unit.{BookUnit, Allowed}
 use Rattle.fields.proofs.Details.{length-detailsOf}
-use Rattle.format.proofs.Lengths.{length-openingFields, length-nonceOf, length-unitHeader, length-closeHeader, range-told}
-use Rattle.fields.proofs.Texts.{length-unitText}
+use Rattle.format.proofs.Lengths.{length-openingFields, length-nonceOf, length-unitHeader, length-closeHeader}
+use Rattle.fields.proofs.Texts.{range-told, length-unitText}
 
 -- a sealing under a book's nonce with the number n, in 4 bytes, far below the limits of header and text
 record Numbered (number n : ℕ) (s : Sealing) : Type 0 where

@@ -1,11 +1,8 @@
 -- The lengths of a book's parts, of the whole and of its call list; units behind others.
 use mathlib.Core.Path.{_≡_, refl, sym, ap, _∙_}
-use mathlib.Core.Bool.{true, _&&_, and-eq-true-iff}
 use mathlib.Core.List.{List, [], _∷_, _++_, append-assoc, append-nil}
 use Prim.Native.Nat.{ℕ, suc, _+_, _≤_}
 use native.Mathlib.Omega.{arith}
-use borrow.Author.Tests.{leb-true}
-use lib.Dec.{leb}
 use lib.ListN.{length, length-append, length-take, length-drop}
 use Rattle.bits.proofs.BigEndian.{length-bigEndian}
 use Rattle.calls.specs.Calls.{CipherCall}
@@ -31,7 +28,7 @@ use Rattle.format.specs.Sealings.{
   cipherCalls,
   callTotal,
 }
-use Rattle.fields.specs.Unit.{BookUnit, Allowed, detailsOf, detailsLength, inRange, unitText}
+use Rattle.fields.specs.Unit.{BookUnit, Allowed, detailsOf, detailsLength, unitText}
 use Rattle.fields.proofs.Details.{length-detailsOf}
 use Rattle.fields.proofs.Fields.{length-field}
 use Rattle.fields.proofs.Texts.{length-unitText}
@@ -53,13 +50,6 @@ length-unitHeader kind n details = simp (length-field, length-append, length-big
 pub length-closeHeader : (kind : Kind) (n : ℕ) → length (closeHeader kind n) ≡ 3 + kind .numberBytes
 unfolding closeHeader
 length-closeHeader kind n = simp (length-field, length-bigEndian)
-
--- the range that s and t are in
-pub range-told : (s t : ℕ) → inRange s t ≡ true → (1 ≤ s) × (s ≤ 4096) × (t ≤ 4096)
-range-told s t e =
-    let low = and-eq-true-iff (leb 1 s) (leb s 4096 && leb t 4096) .0 e in
-    let high = and-eq-true-iff (leb s 4096) (leb t 4096) .0 (low .1) in
-    (leb-true 1 s (low .0), leb-true s 4096 (high .0), leb-true t 4096 (high .1))
 
 -- sealed bytes: as many as the text has, and the tag
 

@@ -21,8 +21,8 @@ use Rattle.fields.specs.Unit.{BookUnit, Allowed, detailsOf, unitText}
 use Rattle.fields.proofs.Fields.{field-same, field-inj}
 use Rattle.format.proofs.Headers.{unitHeader-parts, unitHeader-no-close, openingFields-inj}
 use Rattle.fields.proofs.Details.{length-detailsOf, unit-same}
-use Rattle.format.proofs.Lengths.{length-nonceOf, length-unitSealed, length-closeBytes, range-told}
-use Rattle.fields.proofs.Texts.{length-unitText, bytes-unitText, unitText-inj}
+use Rattle.format.proofs.Lengths.{length-nonceOf, length-unitSealed, length-closeBytes}
+use Rattle.fields.proofs.Texts.{range-told, length-unitText, bytes-unitText, unitText-inj}
 
 pub bytes-nonceOf : (number n : ℕ) → Bytes (nonceOf number n)
 unfolding nonceOf

@@ -2,7 +2,7 @@
 use sealing::seal::SealAnswer;
 use suites::refusal::Answer;
 use suites::suite::Suite;
-use writer::Writer;
+use writer::Written;
 ghost use Prim.Native.Nat.{_≤_};
 ghost use lib.ListN.{length};
 
@@ -45,7 +45,7 @@ fn run_start(buf: &mut [u8]) {
     report::text(b"start ");
     report::number(buf.len() as u64);
     report::text(b" ");
-    let started = Writer::start(suite, &[0u8; 16], 7, buf);
+    let started = Written::start(suite, &[0u8; 16], 7, buf);
     let answer = started.answer;
     write_answer(answer);
 }
@@ -60,9 +60,8 @@ fn run_source(source: &[u8]) {
     report::text(b"source ");
     report::number(source.len() as u64);
     report::text(b" ");
-    let started = Writer::start(suite, &[0u8; 16], 7, &mut buf);
-    let w = started.writer;
-    let added = w.add(*b"en", *b"de", source, b"", &mut buf);
+    let started = Written::start(suite, &[0u8; 16], 7, &mut buf);
+    let added = started.add(*b"en", *b"de", source, b"", &mut buf);
     let answer = added.answer;
     write_answer(answer);
 }

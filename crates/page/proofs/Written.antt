@@ -10,10 +10,10 @@ use Rattle.suites.specs.declared.suite.Suite.{Suite}
 use Rattle.fields.specs.Each.{EachFrom, moreFrom}
 use Rattle.fields.specs.Kind.{Kind, WellFormed}
 use Rattle.fields.specs.Unit.{BookUnit, Allowed, unitText, sourceOf}
-use Rattle.fields.proofs.Texts.{sourceOf-unitText}
+use Rattle.fields.proofs.Texts.{range-told, sourceOf-unitText}
 use Rattle.format.specs.Layout.{unitBytes, closeBytes, unitsBytes, bookBytes, Bookable}
 use Rattle.format.specs.Sealings.{openingFields}
-use Rattle.format.proofs.Lengths.{length-openingFields, range-told}
+use Rattle.format.proofs.Lengths.{length-openingFields}
 use Rattle.kinds.specs.declared.Kind.{Kind as BookKind}
 use Rattle.kinds.specs.Kind.{kindOf, bookKind}
 use Rattle.kinds.proofs.Formed.{formed}

@@ -2,59 +2,28 @@
 use kinds::Kind;
 use suites::refusal::Answer;
 use suites::suite::Suite;
-ghost use mathlib.Core.Path.{_≡_};
+use writer_state::Writer;
 ghost use Rattle.fields.specs.Kind.{writerKind};
 ghost use Rattle.fields.specs.Unit.{unitOf};
-ghost use Rattle.writer.specs.Writer.{noWriter};
-ghost use Rattle.writer.specs.History.{add, close, state, Answers, Starts};
+ghost use Rattle.writer_calls.specs.History.{add, close, state, Answers, Starts};
 
-mod tests;
-
-// What a book's writer holds between calls. Any value of it is answered.
-pub struct Writer {
-    pub suite: Suite,
-    pub key: [u8; 16],
-    pub number: u64,
-    pub place: usize,
-    pub count: u64,
-    pub total: u64,
-    pub closed: bool,
-}
-
-// A writer with the answer; with a refusal it is the writer that was given, or a closed writer of zeros at a start.
+// A writer with the answer to its last call; with a refusal it is the writer that was given, or a closed writer of zeros at a start. The
+// next call goes by the writer alone.
 pub struct Written {
     pub answer: Answer,
     pub writer: Writer,
 }
 
-// A closed writer of zeros.
-fn no_writer() -> Writer
-    ensures { λ r. ⌜ r ≡ noWriter ⌝ }
-{
-    Writer {
-        suite: Suite {
-            cipher: 0,
-            steps: 0,
-        },
-        key: [0u8; 16],
-        number: 0,
-        place: 0,
-        count: 0,
-        total: 0,
-        closed: true,
-    }
-}
-
-impl Writer {
+impl Written {
     // The opening fields at the buffer's start, and a writer behind them. Refusals: 1, 2, 7.
     pub fn start(suite: Suite, key: &[u8], number: u64, buf: &mut [u8]) -> Written
         ensures { λ r. ⌜ Starts suite (now (key .entry)) number (now (buf .entry))
             (r .answer) (state (r .writer) (now (buf .exit))) ⌝ }
     {
-        let tested = crate::tests::start_tests(suite, key.len(), buf.len());
+        let tested = writer_state::tests::start_tests(suite, key.len(), buf.len());
         match tested {
             Answer::Refused(why) => {
-                let writer = no_writer();
+                let writer = writer_state::no_writer();
                 Written {
                     answer: Answer::Refused(why),
                     writer,
@@ -91,25 +60,26 @@ impl Writer {
         buf: &mut [u8],
     ) -> Written
         ensures { λ r. ⌜ Answers writerKind (add (unitOf from to (now (source .entry)) (now (target .entry))))
-            (state self (now (buf .entry))) (r .answer) (state (r .writer) (now (buf .exit))) ⌝ }
+            (state (self .writer) (now (buf .entry))) (r .answer) (state (r .writer) (now (buf .exit))) ⌝ }
     {
+        let w = self.writer;
         let s = source.len();
         let t = target.len();
         let kind = Kind::newest();
-        let tested = crate::tests::add_tests(kind, self, from, to, s, t, buf.len());
+        let tested = writer_state::tests::add_tests(kind, w, from, to, s, t, buf.len());
         match tested {
             Answer::Refused(why) => Written {
                 answer: Answer::Refused(why),
-                writer: self,
+                writer: w,
             },
             Answer::Done => {
-                let at = self.place;
-                let suite = self.suite;
-                let key = self.key;
-                let number = self.number;
-                let count = self.count;
-                let total = self.total;
-                let closed = self.closed;
+                let at = w.place;
+                let suite = w.suite;
+                let key = w.key;
+                let number = w.number;
+                let count = w.count;
+                let total = w.total;
+                let closed = w.closed;
                 let taken = kind.unit_room(s, t);
                 let calls = frames::put_unit(
                     kind,
@@ -143,22 +113,23 @@ impl Writer {
     // The close at the writer's place, and a closed writer behind it. Refusals: 9, 10, 7.
     pub fn close(self, buf: &mut [u8]) -> Written
         ensures { λ r. ⌜ Answers writerKind close
-            (state self (now (buf .entry))) (r .answer) (state (r .writer) (now (buf .exit))) ⌝ }
+            (state (self .writer) (now (buf .entry))) (r .answer) (state (r .writer) (now (buf .exit))) ⌝ }
     {
+        let w = self.writer;
         let kind = Kind::newest();
-        let tested = crate::tests::close_tests(kind, self, buf.len());
+        let tested = writer_state::tests::close_tests(kind, w, buf.len());
         match tested {
             Answer::Refused(why) => Written {
                 answer: Answer::Refused(why),
-                writer: self,
+                writer: w,
             },
             Answer::Done => {
-                let at = self.place;
-                let suite = self.suite;
-                let key = self.key;
-                let number = self.number;
-                let count = self.count;
-                let total = self.total;
+                let at = w.place;
+                let suite = w.suite;
+                let key = w.key;
+                let number = w.number;
+                let count = w.count;
+                let total = w.total;
                 let tail = kind.close_len();
                 let made = frames::put_close(kind, suite, key, number, count, &mut buf[at..]);
                 let writer = Writer {

@@ -8,8 +8,8 @@ use lib.ListN.{length, take, drop, replicate}
 use lib.Seq.{take-at, drop-at, drop-drop}
 use Rattle.bits.specs.Bytes.{bigEndian, numberOf}
 use Rattle.bits.proofs.BigEndian.{length-bigEndian, numberOf-bigEndian}
-use Rattle.writer.specs.Writer.{noWriter}
-use Rattle.writer.specs.declared.Writer.{Writer}
+use Rattle.writer_state.specs.Writer.{noWriter}
+use Rattle.writer_state.specs.declared.Writer.{Writer}
 use Rattle.writer_bytes.specs.WriterBytes.{writerOf, writerBytes}
 
 -- p stands at a place of b, and q behind it

@@ -5,7 +5,7 @@ use Prim.Native.Nat.{ℕ}
 use lib.Dec.{eqb}
 use lib.ListN.{getD, take, drop, replicate}
 use Rattle.bits.specs.Bytes.{bigEndian, numberOf}
-use Rattle.writer.specs.declared.Writer.{Writer}
+use Rattle.writer_state.specs.declared.Writer.{Writer}
 
 -- any 64 bytes are a writer; it is open where byte 2 is 1
 unfoldable pub writerOf : List ℕ → Writer

@@ -1,6 +1,6 @@
 // The writer as 64 bytes.
 use suites::suite::Suite;
-use writer::Writer;
+use writer_state::Writer;
 ghost use mathlib.Core.Bool.{cond};
 ghost use mathlib.Core.Path.{_≡_};
 ghost use Rattle.writer_bytes.specs.WriterBytes.{writerOf, writerBytes};

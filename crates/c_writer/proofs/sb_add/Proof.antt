@@ -1,7 +1,7 @@
 -- By cases on the answer, of the writer that the bytes are.
 use borrow.Author.Needs.{needs}
 use Rattle.fields.specs.Unit.{unitOf}
-use Rattle.writer.specs.History.{add}
+use Rattle.writer_calls.specs.History.{add}
 use Rattle.c_writer.specs.Written.{kept}
 use Rattle.c_writer.proofs.Calls.{refused-calls, done-calls}
 use Rattle.c_writer.proofs.sb_add.Statement.{statement}

@@ -1,6 +1,6 @@
 -- By cases on the answer, of the writer that the bytes are.
 use borrow.Author.Needs.{needs}
-use Rattle.writer.specs.History.{close}
+use Rattle.writer_calls.specs.History.{close}
 use Rattle.c_writer.specs.Written.{kept}
 use Rattle.c_writer.proofs.Calls.{refused-calls, done-calls}
 use Rattle.c_writer.proofs.sb_close.Statement.{statement}

@@ -8,11 +8,11 @@ use lib.ListN.{length}
 use lib.Seq.{length-take-le}
 use Rattle.fields.specs.Kind.{Kind}
 use Rattle.fields.specs.Unit.{BookUnit, unitOf, unitText, detailsOf}
+use Rattle.fields.proofs.Texts.{range-told}
 use Rattle.kinds.specs.Kind.{kindOf}
 use Rattle.kinds.specs.Lengths.{unitLength}
 use Rattle.format.specs.Layout.{sealedFields, unitBytes}
 use Rattle.format.specs.Sealings.{unitHeader, unitSealing}
-use Rattle.format.proofs.Lengths.{range-told}
 use Rattle.frames.proofs.Sealed.{framed}
 use Rattle.frames.proofs.put_unit.Statement.{statement}
 use Rattle.frames.proofs.put_unit.Tie as tie

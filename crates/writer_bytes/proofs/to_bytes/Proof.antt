@@ -8,7 +8,7 @@ use borrow.Author.Needs.{needs}
 use borrow.Rule.Slice.PartMut.{putMid}
 use lib.ListN.{replicate, length-map}
 use Rattle.bits.specs.Bytes.{bigEndian}
-use Rattle.writer.specs.declared.Writer.{Writer}
+use Rattle.writer_state.specs.declared.Writer.{Writer}
 use Rattle.writer_bytes.specs.WriterBytes.{writerBytes}
 use Rattle.writer_bytes.proofs.Fronts.{Front, front-length, number-put, block-put}
 use Rattle.writer_bytes.proofs.to_bytes.Statement.{statement}

@@ -1,8 +1,0 @@
-pub mod Passed
-pub mod Order
-pub mod Put
-pub mod Few
-pub mod Answers
-pub mod Handed
-pub mod Brings
-pub mod Left
