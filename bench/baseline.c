@@ -697,7 +697,7 @@ INLINE uint32_t add_unit(const kind *k, baseline_writer *w, uint8_t *buffer, siz
     uint32_t number = writer_refused(k, w, len);
     if (number != 0)
         return number;
-    if (!letters(from) || !letters(to) || memcmp(from, to, 2) == 0)
+    if (!letters(from) || !letters(to))
         return 11;
     if (s == 0 || s > LONGEST_SEGMENT || t > LONGEST_SEGMENT)
         return 12;
@@ -842,7 +842,7 @@ INLINE uint32_t next_unit(const kind *k, rest *r, uint64_t units, unit *u)
     if (number_at(k, head) != units)
         return 15;
     const uint8_t *from = head + k->number_bytes, *to = from + 2;
-    if (!letters(from) || !letters(to) || memcmp(from, to, 2) == 0)
+    if (!letters(from) || !letters(to))
         return 11;
     u->head = head - FIELD;
     u->head_len = header_len(k);

@@ -11,8 +11,8 @@
 
 #include "sealed_book.h"
 
-#if SB_VERSION != 3
-#error "this program is written for version 3 of the header"
+#if SB_VERSION != 4
+#error "this program is written for version 4 of the header"
 #endif
 
 struct unit {

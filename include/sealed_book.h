@@ -36,8 +36,11 @@ extern "C" {
  *   2  sb_fetch_at has one more parameter at its end, *next
  *   3  books are written with unit numbers of 4 bytes, up to SB_UNITS_MAX, and take more room: SB_UNIT_ROOM, SB_CLOSE_ROOM,
  *      SB_BOOK_ROOM and SB_UNITS_MAX are larger. A program that was compiled with an older header may lend too short a buffer,
- *      which is refused with 7. Books of older versions are read still; older versions of the library refuse the new ones */
-#define SB_VERSION 3
+ *      which is refused with 7. Books of older versions are read still; older versions of the library refuse the new ones
+ *   4  the two codes of a unit may be the same: sb_add takes such units, and all calls that read a book read them, where versions
+ *      before refused with 11. A program that left it to the library to refuse such a pair has to test it itself now. A book
+ *      without such a unit is byte for byte that of version 3, which reads it; older versions refuse a book with such a unit */
+#define SB_VERSION 4
 
 /* Lengths in bytes, and limits. */
 #define SB_KEY_LEN 16         /* a key */
@@ -48,7 +51,7 @@ extern "C" {
 #define SB_SEGMENT_MAX 4096   /* a source at most, or a target; a source has 1 at least */
 #define SB_UNIT_MAX 8192      /* source and target of a unit together at most: always enough output for a fetch */
 #define SB_UNITS_MAX 16777215 /* units of a book at most; a book of a version before 3 has at most 65,535 */
-#define SB_CODE_LEN 2         /* what sb_add reads of each language code */
+#define SB_CODE_LEN 2         /* what sb_add reads of each language code: two letters a to z */
 #define SB_CODE_ROOM 4        /* room for a language code that is handed out */
 #define SB_FIRST_UNIT 16      /* where unit 0 begins in a book, or the close of a book without units */
 #define SB_ROW_LEN 12         /* a row of a page, which has one for each unit */
@@ -83,7 +86,7 @@ extern "C" {
                                  16,777,215 or a call total over 1,024 * (unit count + 1): it comes from a refused start, the
                                  buffer is shorter than before, or its bytes were changed */
 #define SB_WRITER_CLOSED 10   /* the writer is closed */
-#define SB_LANGUAGES 11       /* a language code has a byte that is no letter a to z, or the two codes are the same */
+#define SB_LANGUAGES 11       /* a language code has a byte that is no letter a to z */
 #define SB_SEGMENT_LENGTH 12  /* the source has not 1 to 4,096 bytes, or the target has more than 4,096 */
 #define SB_TOO_MANY_UNITS 13  /* the book has 16,777,215 units already; one with numbers of 2 bytes never gets so far */
 #define SB_FIELD_MALFORMED 14 /* a field of the book has another tag or length than it must have there, also one of the other
@@ -107,7 +110,7 @@ static inline const char *sb_refusal_text(uint32_t refusal) {
     case SB_TAG_DIFFERS: return "the tag differs: bytes were changed, or the key is another";
     case SB_WRITER_INVALID: return "the writer is not valid, or its buffer is shorter than it was";
     case SB_WRITER_CLOSED: return "the writer is closed already";
-    case SB_LANGUAGES: return "a language code is not two letters a to z, or the two codes are the same";
+    case SB_LANGUAGES: return "a language code has a byte that is no letter a to z";
     case SB_SEGMENT_LENGTH: return "the source does not have 1 to 4,096 bytes, or the target has more than 4,096";
     case SB_TOO_MANY_UNITS: return "a book has no room for more than 16,777,215 units";
     case SB_FIELD_MALFORMED: return "not a whole book: a field is malformed, or bytes are missing or left over";
@@ -197,9 +200,10 @@ uint32_t sb_open(uint8_t cipher, uint8_t steps, const uint8_t *key, size_t key_l
 uint32_t sb_start(uint8_t cipher, uint8_t steps, const uint8_t *key, size_t key_len, uint64_t number,
                   uint8_t *buf, size_t buf_len, uint8_t writer[SB_WRITER_LEN]);
 
-/* Adds a unit: from and to are its language codes, two letters a to z each. Writes SB_UNIT_ROOM(source_len, target_len) bytes at
- * the writer's place, leaves every other byte of buf as it was, and moves the writer on: place, unit count and call total. A slice
- * of length 0 may be null.
+/* Adds a unit: from and to are its language codes, two letters a to z each. The two codes may be the same, as where English is
+ * rewritten in a controlled English; where that would be a mistake, compare them before the call. Writes
+ * SB_UNIT_ROOM(source_len, target_len) bytes at the writer's place, leaves every other byte of buf as it was, and moves the writer
+ * on: place, unit count and call total. A slice of length 0 may be null.
  * Exactly SB_CODE_LEN bytes of each code are read, whatever follows them: a string of fewer letters would be read past its end,
  * and one of more is cut without a word, "deu" to "de". Test strlen(code) == SB_CODE_LEN where a code comes from outside.
  * Refusals, the first that applies: 9, 10, 11, 12, 13, 7; then buf and writer are as they were. */
@@ -220,13 +224,16 @@ uint32_t sb_close(uint8_t writer[SB_WRITER_LEN], uint8_t *buf, size_t buf_len);
  * books have 0x14 or 0x21 there; what is read there and begins otherwise is refused with 14. So is a field of the other kind: a
  * book is of one kind throughout. In a book of the second kind no number over 65,535 can stand: a unit or a close that would need
  * one is refused with 15, so that the limit of 13 is never reached but by the number that sb_fetch_at or sb_unit_at is given.
+ *
+ * The rule for language codes is one for both kinds: letters a to z. A unit whose two codes are the same is read in either kind,
+ * though versions before 4 wrote none, and refuse it.
  */
 
 /* Checks a whole book, from its first byte to its last, under its key of 16 bytes: accepts it where sb_start, sb_add for each unit
- * and sb_close under this key can have written it, or those of a version before 3, and refuses any other bytes. Only reads. *units
- * is then the number of units, *calls the number of cipher calls that it takes to write these bytes: what sb_units and sb_calls
- * give of a writer that leaves them. Of a book that was made shorter on the way these are not its maker's numbers: compare them and
- * book_len with the receipt (above). A slice of length 0 may be null.
+ * and sb_close under this key can have written it, or those of a version before 3, taken with this version's rule for language
+ * codes, and refuses any other bytes. Only reads. *units is then the number of units, *calls the number of cipher calls that it
+ * takes to write these bytes: what sb_units and sb_calls give of a writer that leaves them. Of a book that was made shorter on the
+ * way these are not its maker's numbers: compare them and book_len with the receipt (above). A slice of length 0 may be null.
  * Refusals, the first that applies in the order of the bytes: 2; 14 of the opening fields; 1; of each unit 14 of its number and
  * languages' field, 13, 15, 11, 14 of its ciphertext's and tag's fields, 8, 12; of the close 14 of its fields, 15, 8, and 14 for
  * bytes left over. Then *units and *calls are as they were. */
@@ -290,10 +297,10 @@ uint32_t sb_page(const uint8_t *key, size_t key_len, const uint8_t *book, size_t
  * Refusals, the first that applies: 14 of the opening fields, 1; then *cipher, *steps and *number are as they were. */
 uint32_t sb_info(const uint8_t *book, size_t book_len, uint8_t *cipher, uint8_t *steps, uint64_t *number);
 
-/* Of unit `number`, whose fields begin at byte `at` of the book: its language codes, *from_len letters in from and *to_len in to,
- * zeros behind them up to SB_CODE_ROOM bytes; its ciphertext, *ciphertext_len bytes from byte *ciphertext_at of the book on, 2 more
- * than source and target have together; and *next, where the next unit begins, or the close. Any place may be given, as with
- * sb_fetch_at. No seal is tested.
+/* Of unit `number`, whose fields begin at byte `at` of the book: its language codes, which may be the same, *from_len letters a to
+ * z in from and *to_len in to, zeros behind them up to SB_CODE_ROOM bytes; its ciphertext, *ciphertext_len bytes from byte
+ * *ciphertext_at of the book on, 2 more than source and target have together; and *next, where the next unit begins, or the close.
+ * Any place may be given, as with sb_fetch_at. No seal is tested.
  * Refusals, the first that applies: 14 of the opening fields, 1; of what stands at the place 14, 13, 15, 11, 14 as in sb_fetch of a
  * unit; where it begins as a close does, 14 of the close's fields, 15, then 16, whatever stands behind it. Then everything that
  * was lent is as it was. */

@@ -10,9 +10,10 @@ use crate::{info, raw, Info, Receipt, Refusal, Suite, Unit};
 /// A book that was checked as a whole, with its key and its bytes: `B` is a `Vec<u8>`, a `&[u8]`, an
 /// `Arc<[u8]>`, or whatever else lends bytes.
 ///
-/// That there is a `Book` says that a [`Writer`](crate::Writer) under this key can have left these bytes,
-/// this version's or one of before 0.3, from the first to the last, and that nothing stands behind the close. As far
-/// as ciphers and mode are strong, no unit is missing, doubled, moved or exchanged.
+/// That there is a `Book` says that a [`Writer`](crate::Writer) under this key can have left these bytes, from the
+/// first to the last, and that nothing stands behind the close: a writer of this version, or one of before 0.3, taken
+/// with this version's rule for language codes. As far as ciphers and mode are strong, no unit is missing, doubled,
+/// moved or exchanged.
 ///
 /// That a writer did leave them it does not say: without the key, a unit can be made shorter by who knows some of
 /// its text, or where two equal blocks of 16 bytes stand right before its last one. A [`Receipt`] from the book's
@@ -70,7 +71,8 @@ impl<B: AsRef<[u8]>> Book<B> {
     ///
     /// A book is of one of two kinds: with unit numbers of four bytes, as [`Writer`](crate::Writer) makes it, or of
     /// two, from a version before 0.3, and then it has at most 65,535 units. The byte behind the opening fields says
-    /// which.
+    /// which. Language codes are letters a to z in both. The two of a unit may be the same in both, too, though
+    /// versions before 0.4 wrote no such unit.
     ///
     /// # Errors
     ///

@@ -65,7 +65,7 @@ impl<'a> ClearUnit<'a> {
         self.from.as_str()
     }
 
-    /// The code of the target's language.
+    /// The code of the target's language, which may be the source's.
     pub fn target_language(&self) -> &str {
         self.to.as_str()
     }

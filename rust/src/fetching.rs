@@ -9,7 +9,7 @@ use crate::{raw, Refusal, Unit};
 ///
 /// What is tested then:
 /// - the opening fields, and of each unit before `k` that it is framed as a unit, has the running number
-///   and allowed languages;
+///   and language codes of letters a to z;
 /// - unit `k` in full: number, languages, source and target are such as a writer can have added under this
 ///   key to a book of this number and suite, as its unit `k`.
 ///

@@ -1,7 +1,8 @@
 //! Sealed books, for the makers of translation memory software: a manual that is not released yet goes to
 //! a translator as one sealed file, a **book**.
 //!
-//! A book is a list of **units**, each a source text and its translation, with the languages of the two.
+//! A book is a list of **units**, each a source text and its translation, with the languages of the two, which may
+//! be the same, as where English is rewritten in a controlled English.
 //! A [`Writer`] writes one, and gives a [`Receipt`] with it; [`Book::check_receipt`] accepts the bytes under
 //! the key where a writer can have left them and they have the receipt's three numbers, and refuses any other;
 //! units are then fetched one by one or in order. Texts are sealed with the tweakable block ciphers Scream and iScream
@@ -39,7 +40,8 @@
 //! nothing that was lent. A book that a call takes over is dropped with a refusal: lend `&bytes` to keep it.
 //!
 //! A book has at most 16,777,215 units. Books that versions before 0.3 have written, with at most 65,535 units, are
-//! read by everything here that reads a book; those versions do not read the books that this one writes.
+//! read by everything here that reads a book; those versions do not read the books that this one writes. Versions
+//! before 0.4 refuse a book in which a unit's two language codes are the same.
 //!
 //! # What stands below
 //!

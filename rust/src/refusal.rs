@@ -34,7 +34,8 @@ pub enum Refusal {
     WriterInvalid = 9,
     /// The writer is closed.
     WriterClosed = 10,
-    /// A language code is not two letters a to z, or the two codes are the same.
+    /// A language code has a byte that is no letter a to z. [`Writer::add`](crate::Writer::add) hands a code that has
+    /// not two bytes on as two zero bytes, which are no letters, so that it gets this too.
     LanguagesNotAllowed = 11,
     /// The source has not 1 to 4,096 bytes, or the target has more than 4,096.
     SegmentLength = 12,
@@ -106,9 +107,7 @@ impl fmt::Display for Refusal {
             TagDiffers => "the tag differs: bytes were changed, or the key is another",
             WriterInvalid => "the writer is not valid, or its buffer is shorter than it was",
             WriterClosed => "the writer is closed already",
-            LanguagesNotAllowed => {
-                "a language code is not two letters a to z, or the two codes are the same"
-            }
+            LanguagesNotAllowed => "a language code has a byte that is no letter a to z",
             SegmentLength => {
                 "the source does not have 1 to 4,096 bytes, or the target has more than 4,096"
             }

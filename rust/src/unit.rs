@@ -29,7 +29,7 @@ impl Unit {
         self.from.as_str()
     }
 
-    /// The code of the target's language.
+    /// The code of the target's language, which may be the source's.
     pub fn target_language(&self) -> &str {
         self.to.as_str()
     }

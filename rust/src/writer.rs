@@ -17,6 +17,8 @@ const FIRST: usize = 1_024;
 /// Unit numbers have four bytes in the book. Versions of this crate before 0.3 wrote two, and do not read what this
 /// one writes; their books are read still.
 ///
+/// The two language codes of a unit may be the same. Versions before 0.4 refuse a book with such a unit.
+///
 /// # One book number, one book
 ///
 /// Under one key a book number must never be used twice, not for two books and not for two versions of
@@ -35,11 +37,14 @@ const FIRST: usize = 1_024;
 /// # let key = [7; 16];
 /// let mut writer = Writer::start(Suite::SCREAM_10, &key, 7)?;
 /// assert_eq!(writer.add("en", "de", "valve", "Ventil"), Ok(0));
-/// assert_eq!(writer.add("en", "en", "valve", "valve"), Err(Refusal::LanguagesNotAllowed));
-/// assert_eq!(writer.add("en", "fr", "valve", "vanne"), Ok(1));
+/// // a code in capitals
+/// assert_eq!(writer.add("EN", "de", "valve", "Ventil"), Err(Refusal::LanguagesNotAllowed));
+/// // the same code twice: English that is rewritten in a controlled English
+/// let (source, target) = ("Depress the lever.", "Push the lever.");
+/// assert_eq!(writer.add("en", "en", source, target), Ok(1));
 /// let (book, receipt) = writer.close()?;
-/// assert_eq!(book.len(), raw::book_room(2, "valveVentil".len() + "valvevanne".len()));
-/// assert_eq!(receipt.to_string(), "bytes=133 units=2 calls=11");
+/// assert_eq!(book.len(), raw::book_room(2, "valveVentil".len() + source.len() + target.len()));
+/// assert_eq!(receipt.to_string(), "bytes=156 units=2 calls=13");
 /// # Ok(())
 /// # }
 /// ```
@@ -85,14 +90,16 @@ impl Writer {
     /// Adds a unit: a source in the language `from` and its target in the language `to`. Returns its
     /// number; the first one is unit 0.
     ///
-    /// A code is two letters a to z, and the two differ. They stand in the book in clear; source and
-    /// target are sealed, and only their length in bytes together is seen. Both may be any bytes; a target
-    /// may be empty.
+    /// A code is two letters a to z. The two codes may be the same, as where English is rewritten in a controlled
+    /// English; where that would be a mistake, compare them before the call. They stand in the book in clear;
+    /// source and target are sealed, and only their length in bytes together is seen. Both may be any bytes; a
+    /// target may be empty.
     ///
     /// # Errors
     ///
     /// The first of these that applies:
-    /// - [`Refusal::LanguagesNotAllowed`], also for a code that has not two bytes;
+    /// - [`Refusal::LanguagesNotAllowed`] where a byte of a code is no letter a to z; a code that has not two bytes
+    ///   is handed on as two zero bytes, which are no letters;
     /// - [`Refusal::SegmentLength`] where the source has not 1 to 4,096 bytes or the target more than 4,096;
     /// - [`Refusal::TooManyUnits`] where there are 16,777,215 already, [`raw::UNITS_MAX`].
     pub fn add(

@@ -75,5 +75,5 @@ fn book_vectors_hold() {
             accepted += 1;
         }
     }
-    assert_eq!(accepted, 8 + 19);
+    assert_eq!(accepted, 8 + 22);
 }

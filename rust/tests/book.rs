@@ -360,6 +360,34 @@ fn cut_and_lengthened() {
     }
 }
 
+/// The codes are sealed along: a unit from en to de that was made one from en to en has another tag, and the other way
+/// round. What stands in the clear is said as it stands.
+#[test]
+fn changed_codes() {
+    let mut random = Random::new(SEED + 8);
+    let mut given = book(&mut random, Suite::SCREAM_10, &[(5, 6), (7, 0)]);
+    let pairs = [*b"ende", *b"enen", *b"deen", *b"dede"];
+    for (sealed, put) in pairs.map(|one| pairs.map(|other| (one, other))).concat() {
+        let [f0, f1, t0, t1] = sealed;
+        (given.units[0].from, given.units[0].to) = ([f0, f1], [t0, t1]);
+        for given in of_both_kinds(&given) {
+            let name = format!("{sealed:?}, {put:?}, {:?}", given.kind);
+            let mut bytes = written(&given);
+            let at = raw::FIRST_UNIT + 3 + given.kind.number_bytes();
+            assert_eq!(bytes[at..at + 4], sealed, "{name}");
+            bytes[at..at + 4].copy_from_slice(&put);
+            let due = (sealed != put).then_some(TagDiffers);
+            assert_eq!(Book::check(&given.key, &bytes).err(), due, "{name}");
+            assert_eq!(fetch(&given.key, &bytes, 0).err(), due, "{name}");
+            let behind = fetch(&given.key, &bytes, 1).unwrap();
+            assert_unit(&behind, 1, &given.units[1], &name);
+            let clear = clear_unit(&bytes, 0).unwrap();
+            let said = [clear.source_language(), clear.target_language()].concat();
+            assert_eq!(said.as_bytes(), put, "{name}");
+        }
+    }
+}
+
 /// Each bit of the key counts, for a book of no units too.
 #[test]
 fn other_keys() {

@@ -2,11 +2,11 @@
 
 mod common;
 
-use common::{add, assert_unit, book, lengths, started, suite, written};
+use common::{add, assert_unit, book, lengths, of_both_kinds, started, suite, written};
 use reference::book::{self as second, places};
 use reference::random::Random;
 use sealed_book::Refusal::{LanguagesNotAllowed, SegmentLength};
-use sealed_book::{ciphertext, clear_unit, raw, Book, Refusal, Suite, Writer};
+use sealed_book::{ciphertext, clear_unit, fetch, raw, Book, Refusal, Suite, Writer};
 
 const SEED: u64 = 0x5752_4954;
 
@@ -120,9 +120,12 @@ fn refused() -> Vec<(&'static str, &'static str, usize, usize, Refusal)> {
         ("\0\0", "de"),
         ("en", "`a"),
         ("{a", "de"),
-        // the same
-        ("en", "en"),
-        ("zz", "zz"),
+        // the same, and no letters or not two bytes
+        ("EN", "EN"),
+        ("e1", "e1"),
+        ("\0\0", "\0\0"),
+        ("en\0", "en\0"),
+        ("eng", "eng"),
     ];
     let segments = [
         (0, 0),
@@ -164,6 +167,40 @@ fn refusals_leave_the_writer() {
         assert_eq!(add(&mut writer, unit), Ok(counts.0), "after {name}");
     }
     assert!(writer.close().unwrap().0 == in_one_buffer(&book));
+}
+
+/// Every code with itself, in books of both kinds: the unit is added, and read by every way to read it.
+#[test]
+fn the_same_code_twice() {
+    let mut random = Random::new(SEED + 4);
+    let letters = b'a'..=b'z';
+    let codes: Vec<[u8; 2]> = letters
+        .clone()
+        .flat_map(|a| letters.clone().map(move |b| [a, b]))
+        .collect();
+    assert_eq!(codes.len(), 26 * 26);
+    let mut given = book(&mut random, Suite::SCREAM_10, &vec![(3, 2); codes.len()]);
+    for (unit, code) in given.units.iter_mut().zip(&codes) {
+        (unit.from, unit.to) = (*code, *code);
+    }
+    assert!(written(&given) == in_one_buffer(&given));
+    assert!(written(&given) == given.laid_out().0);
+    for given in of_both_kinds(&given) {
+        let (bytes, kind) = (written(&given), given.kind);
+        let checked = Book::check(&given.key, &bytes).unwrap();
+        // each unit: two blocks of the header, one of the text, and the tag
+        assert_eq!((checked.len(), checked.calls()), (676, 4 * 676 + 3));
+        assert_eq!(checked.page("").unwrap().lines().count(), 676);
+        for (k, added) in given.units.iter().enumerate() {
+            let (number, name) = (k as u64, format!("unit {k}, {kind:?}"));
+            let fetched = fetch(&given.key, &bytes, number).unwrap();
+            assert_unit(&fetched, k, added, &name);
+            assert_eq!(checked.fetch(number), Ok(fetched), "{name}");
+            let clear = clear_unit(&bytes, number).unwrap();
+            let said = [clear.source_language(), clear.target_language()];
+            assert_eq!(said.map(str::as_bytes), [&codes[k][..]; 2], "{name}");
+        }
+    }
 }
 
 /// More units than two bytes count: codes and lengths are still refused, and the book is whole.

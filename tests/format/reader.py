@@ -179,7 +179,7 @@ class Book:
         first_field, codes = self.data[start:self.at], value[kind.width:]
         require(len(self.units) < UNITS_AT_MOST, TOO_MANY_UNITS)
         require(int.from_bytes(value[:kind.width], "big") == len(self.units), UNIT_NUMBER)
-        require(re.fullmatch(b"[a-z]{4}", codes) and codes[:2] != codes[2:], LANGUAGES)
+        require(re.fullmatch(b"[a-z]{4}", codes), LANGUAGES)
         ciphertext = self.field(kind.ciphertext, 3, 8194)
         text = self.open_seal(first_field, ciphertext, self.field(kind.seal, 16))
         s = int.from_bytes(text[:2], "big")

@@ -2,3 +2,5 @@ pub mod Demand3
 pub mod Fetched
 pub mod Limits
 pub mod Paged
+pub mod Rules
+pub mod TwoRules

@@ -32,7 +32,7 @@ tests-accepted Done w n t e = (refl, e)
 tests-accepted (Refused why) w n t e = let z : _≡_ {A = ℕ} 0 1 = cc in absurd (omega arith)
 
 -- a book is its opening fields, then its frames
-book-is : (kind : Kind) (suite : Suite) (key : List ℕ) (number : ℕ) (us : List BookUnit)
+pub book-is : (kind : Kind) (suite : Suite) (key : List ℕ) (number : ℕ) (us : List BookUnit)
     → bookBytes kind suite key number us ≡ openingFields suite number ++ bytesFrom kind suite key number 0 us
 unfolding bookBytes
 book-is kind suite key number us =

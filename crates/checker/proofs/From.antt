@@ -58,11 +58,11 @@ module _ (kind : Kind) (suite : Suite) (key : List ℕ) (number : ℕ) where
   abbrev pub bytesFrom : ℕ → List BookUnit → List ℕ
   bytesFrom n us = unitsBytes kind suite key number n us ++ closeBytes kind suite key number (n + length us)
 
-  bytes-none : (n : ℕ) → bytesFrom n [] ≡ closeBytes kind suite key number n
+  pub bytes-none : (n : ℕ) → bytesFrom n [] ≡ closeBytes kind suite key number n
   unfolding unitsBytes
   bytes-none n = ap (closeBytes kind suite key number) (add-zero n)
 
-  bytes-more : (n : ℕ) (u : BookUnit) (us : List BookUnit) → bytesFrom n (u ∷ us) ≡ unitBytes kind suite key number n u ++ bytesFrom (suc n) us
+  pub bytes-more : (n : ℕ) (u : BookUnit) (us : List BookUnit) → bytesFrom n (u ∷ us) ≡ unitBytes kind suite key number n u ++ bytesFrom (suc n) us
   unfolding unitsBytes
   bytes-more n u us =
       let b : List ℕ = unitBytes kind suite key number n u in

@@ -11,11 +11,11 @@ use Rattle.checker.specs.Check.{withSeal}
 
 -- a frame whose tests are done is there, and its seal's tests are done
 
-frame-unit : (a : Answer) (f : Frame) (m : ℕ) → frameOf a f ≡ Unit m → (a ≡ Done) × (f ≡ Unit m)
+pub frame-unit : (a : Answer) (f : Frame) (m : ℕ) → frameOf a f ≡ Unit m → (a ≡ Done) × (f ≡ Unit m)
 frame-unit Done f m e = (refl, e)
 frame-unit (Refused why) f m e = let z : _≡_ {A = ℕ} 0 1 = cc in absurd (omega arith)
 
-frame-close : (a : Answer) (f : Frame) → frameOf a f ≡ Close → (a ≡ Done) × (f ≡ Close)
+pub frame-close : (a : Answer) (f : Frame) → frameOf a f ≡ Close → (a ≡ Done) × (f ≡ Close)
 frame-close Done f e = (refl, e)
 frame-close (Refused why) f e = let z : _≡_ {A = ℕ} 0 1 = cc in absurd (omega arith)
 

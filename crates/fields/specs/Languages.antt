@@ -1,10 +1,8 @@
 -- Languages.
-use mathlib.Core.Bool.{Bool, true, not, _&&_}
+use mathlib.Core.Bool.{Bool, true, _&&_}
 use mathlib.Core.List.{List, [], _∷_}
 use Prim.Native.Nat.{ℕ}
 use lib.Dec.{leb}
-use lib.ListN.{length}
-use Rattle.bits.specs.Bytes.{sameBytes}
 
 -- "letters a to z"
 abbrev pub letter : ℕ → Bool
@@ -15,6 +13,6 @@ unfoldable pub letters : List ℕ → Bool
 letters [] = true
 letters (b ∷ code) = letter b && letters code
 
--- "Languages are letters a to z, and the two codes differ."; else "language pair not allowed"
+-- "Languages are letters a to z"; "the trade allows equal codes, so 11's cause is now exactly a byte that is no letter a to z"
 unfoldable pub pairAllowed : List ℕ → List ℕ → Bool
-pairAllowed from to = letters from && (letters to && not (sameBytes (length from) from to))
+pairAllowed from to = letters from && letters to

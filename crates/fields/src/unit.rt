@@ -20,7 +20,7 @@ pub fn is_code(code: [u8; 2]) -> bool
 pub fn is_pair(from: [u8; 2], to: [u8; 2]) -> bool
     ensures { λ r. ⌜ r ≡ pairAllowed from to ⌝ }
 {
-    is_code(from) & is_code(to) & !((from[0] == to[0]) & (from[1] == to[1]))
+    is_code(from) & is_code(to)
 }
 
 // Whether source and target may have s and t bytes.

@@ -48,7 +48,8 @@ writerTests kind w room rest =
     rest)
 
 -- "Add: 9 to 13, 7", of a unit with a source of s bytes and a target of t: "language pair not allowed: 11", "s or t out of range: 12",
--- "65,535 units already: 13", which is the kind's limit, "output too short for the result: 7"
+-- "65,535 units already: 13", which is the kind's limit, "output too short for the result: 7". The rule for languages is one for all kinds:
+-- "the earlier writer of request 4 is taken with this rule too"
 unfoldable pub addTests : Kind → Writer → List ℕ → List ℕ → ℕ → ℕ → ℕ → Answer
 addTests kind w from to s t room =
     writerTests kind w room

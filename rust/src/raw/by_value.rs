@@ -43,7 +43,8 @@ impl Writer {
         (Writer::from_bytes(&bytes), answer)
     }
 
-    /// Adds a unit, which takes [`raw::unit_room`] bytes of the buffer.
+    /// Adds a unit, which takes [`raw::unit_room`] bytes of the buffer. Each code is two letters a to z; the two may
+    /// be the same.
     pub fn add(
         self,
         buffer: &mut [u8],

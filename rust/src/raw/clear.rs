@@ -46,7 +46,7 @@ pub struct Unit {
     pub at: usize,
     /// The source's language.
     pub from: Code,
-    /// The target's language.
+    /// The target's language, which may be the source's.
     pub to: Code,
     /// Where its ciphertext stands in the book.
     pub ciphertext: Range<usize>,

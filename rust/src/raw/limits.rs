@@ -40,7 +40,7 @@ pub const UNIT_MAX: usize = 2 * SEGMENT_MAX;
 /// How many units a book has at most. A book of a version before 0.3 has at most 65,535.
 pub const UNITS_MAX: u64 = 16_777_215;
 
-/// How many bytes of a language code [`add`](super::add) reads.
+/// How many bytes of a language code [`add`](super::add) reads: two letters a to z.
 pub const CODE_LEN: usize = 2;
 
 /// Room for a language code that is handed out.

@@ -36,7 +36,7 @@ pub fn start(
     refusal::answer(number)
 }
 
-/// Adds a unit at the writer's place.
+/// Adds a unit at the writer's place. Each code is two letters a to z; the two may be the same.
 #[inline]
 pub fn add(
     writer: &mut Bytes,

@@ -8,11 +8,10 @@ use reference::book::{self as second, Kind};
 use reference::random::Random;
 use sealed_book::{Refusal, Suite, Unit, Writer};
 
-/// A unit with random segments of these lengths, and two languages.
+/// A unit with random segments of these lengths, and two languages, one time in six the same.
 pub fn unit(random: &mut Random, s: usize, t: usize) -> second::Unit {
     let codes = [*b"en", *b"de", *b"fr", *b"ja", *b"zz", *b"aa"];
-    let from = random.below(6);
-    let to = (from + 1 + random.below(5)) % 6;
+    let [from, to] = [(); 2].map(|()| random.below(6));
     second::Unit {
         from: codes[from],
         to: codes[to],

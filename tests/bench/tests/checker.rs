@@ -19,11 +19,11 @@ fn book_vectors_hold() {
     }
 }
 
-/// Books of both kinds and of any units, allowed or not, some of them changed.
+/// Books of both kinds and of any units, allowed or not, some of them changed. Codes that are the same are allowed.
 #[test]
 fn checks_are_those_of_the_reference() {
     let mut random = Random::new(SEED);
-    let mut answers = [[0; 17]; 2];
+    let (mut answers, mut equal) = ([[0; 17]; 2], [0; 2]);
     for case in 0..8_000 {
         let name = format!("seed {SEED:X}, case {case}");
         let suite = random.one_of(&SUITES);
@@ -35,9 +35,11 @@ fn checks_are_those_of_the_reference() {
                 1 if case % 16 == 0 => (4_096 + random.below(2), 4_097 - random.below(2)),
                 _ => (1 + random.below(30), random.below(30)),
             };
+            let pairs = [b"ende", b"ende", b"enen", b"enen", b"endE", b"eNeN"];
+            let [f0, f1, t0, t1] = *random.one_of(&pairs);
             book.units.push(Unit {
-                from: *b"en",
-                to: random.one_of(&[*b"de", *b"de", *b"de", *b"en", *b"dE"]),
+                from: [f0, f1],
+                to: [t0, t1],
                 source: random.some_bytes(s),
                 target: random.some_bytes(t),
             });
@@ -59,10 +61,13 @@ fn checks_are_those_of_the_reference() {
         let expected = check(&key, &bytes);
         assert_eq!(baseline::check(&key, &bytes), expected, "{name}");
         answers[case % 2][expected.err().unwrap_or(0) as usize] += 1;
+        let same = book.units.iter().any(|unit| unit.from == unit.to);
+        equal[case % 2] += usize::from(same && expected.is_ok());
     }
     for number in [0, 1, 2, 8, 11, 12, 14, 15] {
         assert!(answers.iter().all(|of| of[number] > 50), "{answers:?}");
     }
+    assert!(equal.iter().all(|count| *count > 50), "{equal:?}");
 }
 
 /// "one kind per book": units and a close of any kinds, each sealed as its own kind has it.

@@ -93,7 +93,7 @@ fn units_of_the_book_vectors() {
         }
         books += 1;
     }
-    assert_eq!(books, 8 + 19);
+    assert_eq!(books, 8 + 22);
 }
 
 /// Where a book is not as it was written: its key or its opening fields, or the unit of this number, or
@@ -147,7 +147,7 @@ fn refusals_are_those_of_the_checker() {
             let (s, t) = (1 + random.below(30), random.below(30));
             book.units.push(Unit {
                 from: *b"en",
-                to: *b"de",
+                to: random.one_of(&[*b"de", *b"de", *b"en"]),
                 source: random.some_bytes(s),
                 target: random.some_bytes(t),
             });
@@ -157,7 +157,12 @@ fn refusals_are_those_of_the_checker() {
         if let (Changed::From(part), 0..3) = (changed, random.below(10)) {
             let unit = &mut book.units[part];
             match random.below(8) {
-                0..3 => unit.to = random.one_of(&[*b"en", *b"dE", *b"{e", *b"`a"]),
+                0..3 => {
+                    unit.to = random.one_of(&[*b"dE", *b"{e", *b"`a"]);
+                    if random.below(3) == 0 {
+                        unit.from = unit.to;
+                    }
+                }
                 3..7 => unit.source = vec![],
                 _ => unit.source = random.some_bytes(4_097),
             }

@@ -95,7 +95,7 @@ fn pages_are_those_of_the_reference() {
             };
             book.units.push(Unit {
                 from: *b"en",
-                to: *b"de",
+                to: random.one_of(&[*b"de", *b"de", *b"en"]),
                 source: text(&mut random, s),
                 target: random.some_bytes(t),
             });

@@ -68,7 +68,24 @@ fn book_vectors_are_written_again() {
             .take_while(|kind| **kind != book.kind)
             .count()] += 1;
     }
-    assert_eq!(books, [8 + 10, 9]);
+    assert_eq!(books, [8 + 11, 11]);
+}
+
+/// Every code with itself, in a book of each kind: as the reference lays it out, and read again.
+#[test]
+fn equal_codes() {
+    for kind in Kind::ALL {
+        let mut book = Book::known(kind, [9; 16]);
+        for code in (0..676).map(|i| [b'a' + (i / 26) as u8, b'a' + (i % 26) as u8]) {
+            (book.units[0].from, book.units[0].to) = (code, code);
+            let (bytes, calls) = book.laid_out();
+            let (in_c, writer) = written(&book, bytes.len());
+            assert_eq!(in_c, bytes, "{kind:?}, {code:?}");
+            assert_eq!(writer.calls, calls as u64, "{kind:?}, {code:?}");
+            let answer = baseline::check(&book.key, &bytes);
+            assert_eq!(answer, Ok((1, calls as u64)), "{kind:?}, {code:?}");
+        }
+    }
 }
 
 /// Starts, some of them refused.
@@ -99,11 +116,12 @@ fn starts_are_those_of_the_reference() {
     }
 }
 
-/// Adds and closes of any writers, some of them refused: of the writer, and of those of each kind.
+/// Adds and closes of any writers, some of them refused: of the writer, and of those of each kind. Codes that are the
+/// same are added as all others.
 #[test]
 fn adds_and_closes_are_those_of_the_reference() {
     let mut random = Random::new(SEED + 1);
-    let mut answers = [[0; 14]; 3];
+    let (mut answers, mut equal) = ([[0; 14]; 3], [0; 3]);
     for case in 0..9_000 {
         let name = format!("seed {:X}, case {case}", SEED + 1);
         let kind = [None, Some(Kind::Tag10), Some(Kind::Tag14)][case % 3];
@@ -150,7 +168,7 @@ fn adds_and_closes_are_those_of_the_reference() {
             codes[random.below(4)] = byte;
         }
         let (from, to) = ([codes[0], codes[1]], [codes[2], codes[3]]);
-        let to = if random.below(20) == 0 { from } else { to };
+        let to = if random.below(5) == 0 { from } else { to };
         let (source, target) = (random.some_bytes(s), random.some_bytes(t));
 
         let mut buffer = random.some_bytes(len);
@@ -176,8 +194,10 @@ fn adds_and_closes_are_those_of_the_reference() {
         assert_eq!(got, in_c(&after), "{name}");
         assert_eq!(buffer, expected, "{name}");
         answers[case % 3][answer.err().unwrap_or(0) as usize] += 1;
+        equal[case % 3] += usize::from(!closes && from == to && answer.is_ok());
     }
     for number in [0, 7, 9, 10, 11, 12, 13] {
         assert!(answers.iter().all(|of| of[number] > 50), "{answers:?}");
     }
+    assert!(equal.iter().all(|count| *count > 50), "{equal:?}");
 }

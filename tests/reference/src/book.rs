@@ -1,6 +1,6 @@
 //! A whole book, laid out from its units, and taken apart into them again.
 //!
-//! Quoted sentences are the scope's.
+//! Quoted sentences are the scope's, or a request's.
 
 use crate::cipher::listed;
 use crate::random::Random;
@@ -98,10 +98,10 @@ impl Kind {
     }
 }
 
-/// "Languages are letters a to z, and the two codes differ."
+/// "The trade allows equal codes, so 11's cause is now exactly a byte that is no letter a to z."
 pub fn languages_allowed(from: [u8; 2], to: [u8; 2]) -> bool {
-    let letters = [from, to].concat();
-    letters.iter().all(u8::is_ascii_lowercase) && from != to
+    let no_letter = |byte: &u8| !(b'a'..=b'z').contains(byte);
+    ![from, to].concat().iter().any(no_letter)
 }
 
 /// "s is 1 to 4,096, t 0 to 4,096"
@@ -390,6 +390,55 @@ mod tests {
     fn sealed_again(number: u8, header: &[u8], text: &[u8]) -> (Vec<u8>, usize) {
         let nonce = [0, 0, 0, 0, 0, 0, 0, 7, 0, 0, 0, number];
         seal(1, 10, &[9; 16], &nonce, header, text, text.len() + 16).unwrap()
+    }
+
+    /// "11's cause is now exactly a byte that is no letter a to z": every byte at every place, beside letters, and
+    /// at the same place of both codes.
+    #[test]
+    fn languages() {
+        let mut allowed = 0;
+        for byte in 0..=255 {
+            let letter = matches!(byte, 0x61..=0x7A);
+            for (from, to) in [
+                ([byte, b'n'], *b"de"),
+                ([b'e', byte], *b"de"),
+                (*b"en", [byte, b'e']),
+                (*b"en", [b'd', byte]),
+                ([byte, b'n'], [byte, b'n']),
+                ([b'e', byte], [b'e', byte]),
+                ([byte; 2], [byte; 2]),
+            ] {
+                let answer = languages_allowed(from, to);
+                assert_eq!(answer, letter, "{from:?}, {to:?}");
+                allowed += usize::from(answer);
+            }
+        }
+        assert_eq!(allowed, 7 * 26);
+    }
+
+    /// "Books with a pair like en, en, under either header tag, join those that checking accepts": they are laid
+    /// out as all others, with the codes in the header that is sealed along, and taken apart again.
+    #[test]
+    fn equal_codes() {
+        for (kind, head) in [
+            (Kind::Tag10, &b"\x10\0\x06\0\0enen"[..]),
+            (Kind::Tag14, b"\x14\0\x08\0\0\0\0enen"),
+        ] {
+            let mut book = Book::known(kind, [9; 16]);
+            book.units[0].to = *b"en";
+            let (bytes, calls) = book.laid_out();
+            let places = places(&book);
+            let len = places[1] + kind.close_len();
+            assert_eq!((bytes.len(), calls), (len, 7));
+            assert_eq!(bytes[16..16 + head.len()], *head);
+            let header = [&bytes[..16], head].concat();
+            let (sealed, _) = sealed_again(0, &header, b"\x00\x05valveVentil");
+            let part = 16 + kind.ciphertext_at();
+            let tag = places[1] - 16..places[1];
+            assert_eq!([&bytes[part..part + 13], &bytes[tag]].concat(), sealed);
+            let again = Book::taken_apart(&book.key, &bytes);
+            assert_eq!(again, Some(book));
+        }
     }
 
     /// What a kind says, in figures.

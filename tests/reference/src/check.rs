@@ -12,6 +12,15 @@ use crate::sealing::{call_count, open};
 /// "Checking takes key and book, writes nothing, returns unit count and call total. It reads in byte
 /// order." Or the first refusal.
 pub fn check(key: &[u8], book: &[u8]) -> Result<(u64, u64), u32> {
+    check_under(languages_allowed, key, book)
+}
+
+/// The same with any rule for the two codes of a unit, so that two rules can be held against each other.
+pub fn check_under(
+    allowed: fn([u8; 2], [u8; 2]) -> bool,
+    key: &[u8],
+    book: &[u8],
+) -> Result<(u64, u64), u32> {
     if key.len() != 16 {
         return Err(2);
     }
@@ -54,7 +63,7 @@ pub fn check(key: &[u8], book: &[u8]) -> Result<(u64, u64), u32> {
             return Err(15);
         }
         let [f0, f1, t0, t1] = languages.try_into().expect("4 bytes");
-        if !languages_allowed([f0, f1], [t0, t1]) {
+        if !allowed([f0, f1], [t0, t1]) {
             return Err(11);
         }
         let ciphertext = field(book, &mut place, 0x11, 3..=8_194)?;
@@ -167,7 +176,10 @@ mod tests {
             (20, 22, &[1], 15),
             (21, 23, b"deen", 8),
             (21, 23, b"eNde", 11),
-            (21, 23, b"dede", 11),
+            (21, 23, b"dede", 8),
+            (21, 23, b"enen", 8),
+            (21, 23, b"eNeN", 11),
+            (21, 23, b"\0\0\0\0", 11),
             (25, 27, &[0x12], 14),
             (26, 28, &[0, 2], 14),
             (26, 28, &[0x20, 3], 14),
@@ -280,29 +292,41 @@ mod tests {
         }
     }
 
-    /// Books laid out from a unit that is not allowed, and from the longest that is.
+    /// Books of either kind laid out from a unit that is not allowed, from the longest that is, and from units
+    /// whose codes are the same.
     #[test]
     fn units_not_allowed() {
-        for (to, s, t, expected) in [
-            (b"de", 4_096, 4_096, Ok((1, 519))),
-            (b"de", 4_096, 4_097, Err(14)),
-            (b"de", 1, 4_097, Err(12)),
-            (b"de", 4_097, 0, Err(12)),
-            (b"de", 0, 3, Err(12)),
-            (b"en", 1, 0, Err(11)),
-            (b"dE", 1, 0, Err(11)),
+        for (from, to, s, t, expected) in [
+            (b"en", b"de", 4_096, 4_096, Ok((1, 519))),
+            (b"en", b"de", 4_096, 4_097, Err(14)),
+            (b"en", b"de", 1, 4_097, Err(12)),
+            (b"en", b"de", 4_097, 0, Err(12)),
+            (b"en", b"de", 0, 3, Err(12)),
+            (b"en", b"dE", 1, 0, Err(11)),
+            (b"en", b"en", 1, 0, Ok((1, 7))),
+            (b"en", b"en", 4_096, 4_096, Ok((1, 519))),
+            (b"en", b"en", 0, 3, Err(12)),
+            (b"aa", b"aa", 1, 0, Ok((1, 7))),
+            (b"zz", b"zz", 1, 0, Ok((1, 7))),
+            (b"eN", b"eN", 1, 0, Err(11)),
+            (b"e{", b"e{", 0, 3, Err(11)),
+            (b"eN", b"eN", 4_096, 4_097, Err(11)),
         ] {
-            let mut book = Book::random(&mut Random::new(13), (1, 6));
-            book.units.push(Unit {
-                from: *b"en",
-                to: *to,
-                source: vec![1; s],
-                target: vec![2; t],
-            });
-            let (bytes, _) = book.laid_out();
-            assert_eq!(check(&book.key, &bytes), expected, "({s}, {t})");
-            let again = Book::taken_apart(&book.key, &bytes);
-            assert_eq!(again.is_some(), expected.is_ok(), "({s}, {t})");
+            for kind in Kind::ALL {
+                let mut book = Book::random(&mut Random::new(13), (1, 6));
+                book.kind = kind;
+                book.units.push(Unit {
+                    from: *from,
+                    to: *to,
+                    source: vec![1; s],
+                    target: vec![2; t],
+                });
+                let (bytes, _) = book.laid_out();
+                let name = format!("{kind:?}, {from:?}, {to:?}, ({s}, {t})");
+                assert_eq!(check(&book.key, &bytes), expected, "{name}");
+                let again = Book::taken_apart(&book.key, &bytes);
+                assert_eq!(again.is_some(), expected.is_ok(), "{name}");
+            }
         }
     }
 

@@ -130,6 +130,24 @@ mod tests {
         }
     }
 
+    /// Codes that are the same are said as all others; with a byte that is no letter in both they are refused.
+    #[test]
+    fn equal_codes() {
+        for kind in Kind::ALL {
+            let mut book = Book::known(kind, KEY);
+            for (code, allowed) in [(b"en", true), (b"zz", true), (b"En", false)] {
+                (book.units[0].from, book.units[0].to) = (*code, *code);
+                let (bytes, _) = book.laid_out();
+                let codes = unit(&bytes, 0).map(|unit| (unit.from, unit.to));
+                let expected = match allowed {
+                    true => Ok((code.to_vec(), code.to_vec())),
+                    false => Err(11),
+                };
+                assert_eq!(codes, expected, "{kind:?}, {code:?}");
+            }
+        }
+    }
+
     /// A refusal is the one that fetching gives, and where fetching has opened the unit, or the close, this
     /// is handed out, or 16.
     #[test]

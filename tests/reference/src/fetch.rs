@@ -324,7 +324,10 @@ mod tests {
             (20, 22, &[1], 15, 15, false),
             (21, 23, b"deen", 8, 16, true),
             (21, 23, b"eNde", 11, 11, false),
-            (21, 23, b"dede", 11, 11, false),
+            (21, 23, b"dede", 8, 16, true),
+            (21, 23, b"enen", 8, 16, true),
+            (21, 23, b"eNeN", 11, 11, false),
+            (21, 23, b"\0\0\0\0", 11, 11, false),
             (25, 27, &[0x12], 14, 14, false),
             (26, 28, &[0, 2], 14, 14, false),
             (26, 28, &[0x20, 3], 14, 14, false),
@@ -374,6 +377,43 @@ mod tests {
             assert_eq!(fetch(&KEY[1..], &known, 0, ROOM), Err(2));
         }
         assert_eq!(fetch(&[1; 17], &[], 0, 0), Err(2));
+    }
+
+    /// A unit of either kind whose codes are the same, between two others: fetched, walked past, and its
+    /// ciphertext handed back; with a byte that is no letter in both codes it is refused with 11.
+    #[test]
+    fn equal_codes() {
+        let mut random = Random::new(21);
+        for kind in Kind::ALL {
+            for (code, allowed) in [
+                (b"en", true),
+                (b"aa", true),
+                (b"eN", false),
+                (b"e\0", false),
+            ] {
+                let mut book = Book::random(&mut random, (2, 8));
+                book.kind = kind;
+                book.units = (0..3).map(|_| some_unit(&mut random, 5, 6)).collect();
+                (book.units[1].from, book.units[1].to) = (*code, *code);
+                let (bytes, _) = book.laid_out();
+                let at = book::places(&book)[1];
+                let name = format!("{kind:?}, {code:?}");
+                let expected = |k: usize| match allowed || k == 0 {
+                    true => Ok(of(&book.units[k])),
+                    false => Err(11),
+                };
+                for k in 0..3 {
+                    let answer = fetch(&book.key, &bytes, k as u64, ROOM);
+                    assert_eq!(answer, expected(k), "unit {k}, {name}");
+                    let part = ciphertext(&bytes, k as u64);
+                    assert_eq!(part.is_empty(), expected(k).is_err(), "unit {k}, {name}");
+                }
+                let answer = fetch_at(&book.key, &bytes, 1, at, ROOM);
+                assert_eq!(answer.map(|(unit, _)| unit), expected(1), "{name}");
+                let close = if allowed { 16 } else { 11 };
+                assert_eq!(fetch(&book.key, &bytes, 3, ROOM), Err(close), "{name}");
+            }
+        }
     }
 
     /// Units of both kinds in one book, and the close of another kind, each sealed with its own header: the

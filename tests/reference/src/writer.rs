@@ -290,10 +290,16 @@ mod tests {
         {
             let mut book = Book::random(&mut random, suite);
             book.kind = kind;
-            for (s, t) in [(1, 0), (5, 6), (14, 0), (4_096, 4_096), (30, 47)] {
+            for (to, s, t) in [
+                (b"zh", 1, 0),
+                (b"en", 5, 6),
+                (b"zh", 14, 0),
+                (b"zh", 4_096, 4_096),
+                (b"en", 30, 47),
+            ] {
                 book.units.push(Unit {
                     from: *b"en",
-                    to: *b"zh",
+                    to: *to,
                     source: random.some_bytes(s),
                     target: random.some_bytes(t),
                 });
@@ -407,17 +413,20 @@ mod tests {
                 assert_eq!(next == writer, answer.is_err());
                 answer
             };
-            assert_eq!(add(bad, b"en", &[], 16), Err(9));
-            assert_eq!(add(closed, b"en", &[], 16), Err(10));
-            assert_eq!(add(open, b"en", &[], 16), Err(11));
+            assert_eq!(add(bad, b"dE", &[], 16), Err(9));
+            assert_eq!(add(closed, b"dE", &[], 16), Err(10));
             assert_eq!(add(open, b"dE", &[], 16), Err(11));
-            assert_eq!(add(open, b"de", &[], 16), Err(12));
-            assert_eq!(add(open, b"de", &[1], 16), Err(13));
+            assert_eq!(add(open, b"e\0", &[], 16), Err(11));
+            for to in [b"de", b"en"] {
+                assert_eq!(add(open, to, &[], 16), Err(12));
+                assert_eq!(add(open, to, &[1], 16), Err(13));
+            }
             let one_less = Writer {
                 units: most - 1,
                 ..open
             };
             assert_eq!(add(one_less, b"de", &[1], 16 + unit - 1), Err(7));
+            assert_eq!(add(one_less, b"en", &[1], 16 + unit - 1), Err(7));
             assert_eq!(bad.close_of(kind, &mut buffer[..16]), (bad, Err(9)));
             assert_eq!(closed.close_of(kind, &mut buffer[..16]), (closed, Err(10)));
             let short = &mut buffer[..16 + close - 1];

@@ -34,7 +34,8 @@ fn write_a_book(key: &[u8; 16]) -> Result<(Vec<u8>, Receipt), Box<dyn Error>> {
     print("started", writer.written(), &about);
     for (to, source, target) in [
         ("de", "Hold the button down.", "Halten Sie die Taste."),
-        ("fr", "Hold the button down.", "Maintenez le bouton."),
+        // rewritten in a controlled English
+        ("en", "Hold the button down.", "Push and hold the button."),
         ("de", "Close the valve.", ""),
     ] {
         let before = writer.len();
@@ -45,8 +46,8 @@ fn write_a_book(key: &[u8; 16]) -> Result<(Vec<u8>, Receipt), Box<dyn Error>> {
         print("added", fields, &about);
         println!("            {source:?} {target:?}  secret");
     }
-    let answer = writer.add("en", "en", "Close the valve.", "");
-    refused("one more", answer, "from en to en")?;
+    let answer = writer.add("EN", "de", "Close the valve.", "");
+    refused("one more", answer, "from EN to de")?;
 
     let before = writer.len();
     let (bytes, receipt) = writer.close()?;

@@ -30,7 +30,7 @@ fn book_vectors_hold() {
         assert_eq!(answer, expected, "reference: line {}", v.line);
         accepted += usize::from(answer.is_ok());
     }
-    assert_eq!(accepted, 8 + 19);
+    assert_eq!(accepted, 8 + 22);
 }
 
 /// Known value 8, as printed, and as the writer makes it.

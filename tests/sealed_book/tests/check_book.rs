@@ -23,7 +23,7 @@ use reference::book::{Book, Kind};
 use reference::check::check;
 use reference::cipher::SUITES;
 use reference::random::Random;
-use reference::vectors::{book_vectors, books_vectors};
+use reference::vectors::{book_vectors, books_vectors, BookVector};
 
 const SEED: u64 = 0x5052_4F47;
 
@@ -338,17 +338,48 @@ fn stored_runs_of_both_kinds() {
         ("case_8_wide", wide.laid_out().0, "ok units=1 calls=7"),
         ("wide_close_in_old_book", mixed, "refused 14"),
     ] {
-        let stored = |end: &str| {
-            let file = root().join(format!("tests/check_book/{name}.{end}"));
-            read(&file).expect("the stored run is there")
+        assert_stored(name, &key, &book, expected);
+    }
+}
+
+/// Holds a stored run to its key, its book and its line, which the second implementation says too.
+fn assert_stored(name: &str, key: &[u8], book: &[u8], expected: &str) {
+    let stored = |end: &str| {
+        let file = root().join(format!("tests/check_book/{name}.{end}"));
+        read(&file).expect("the stored run is there")
+    };
+    assert_eq!(stored("stdin"), [key, book].concat(), "{name}");
+    assert_eq!(line(key, book), expected, "{name}");
+    assert_eq!(
+        stored("stdout"),
+        format!("{expected}\n").as_bytes(),
+        "{name}"
+    );
+    prints(key, book, expected, name);
+}
+
+/// The stored runs of a book of each kind with a unit from en to en behind one from en to fr, which are lines of
+/// books.txt.
+#[test]
+fn stored_runs_of_equal_codes() {
+    for (name, kind) in [
+        ("equal_codes", Kind::Tag10),
+        ("equal_codes_wide", Kind::Tag14),
+    ] {
+        let pairs_of = |v: &BookVector| {
+            let key = v.key[..].try_into().expect("16 bytes");
+            let book = Book::taken_apart(&key, &v.book).filter(|book| book.kind == kind)?;
+            let pairs = book.units.iter().map(|unit| [unit.from, unit.to]);
+            Some(pairs.collect::<Vec<_>>())
         };
-        assert_eq!(stored("stdin"), [&key[..], &book].concat(), "{name}");
-        assert_eq!(line(&key, &book), expected, "{name}");
-        assert_eq!(
-            stored("stdout"),
-            format!("{expected}\n").as_bytes(),
-            "{name}"
-        );
-        prints(&key, &book, expected, name);
+        let due = [[*b"en", *b"fr"], [*b"en", *b"en"]];
+        let vectors = books_vectors();
+        let mut lines = vectors
+            .iter()
+            .filter(|v| pairs_of(v).is_some_and(|pairs| pairs == due));
+        let v = lines.next().expect(name);
+        assert!(lines.next().is_none(), "{name}: one line");
+        assert_eq!(v.answer, Ok((2, 11)), "{name}: line {}", v.line);
+        assert_stored(name, &v.key, &v.book, "ok units=2 calls=11");
     }
 }

@@ -15,7 +15,7 @@ use common::parts::{
 use common::refused::{first_of_each_set, random_case, spoiled, Cause, Cause::*, CAUSES};
 use common::spoiling::{text, LONG_TEXTS};
 use common::writing::unit;
-use common::{codes_with_each_byte, hex};
+use common::{codes_with_each_byte, hex, CODES_OF_LETTERS};
 use reference::book::{Book, Kind};
 use reference::cipher::{listed, SUITES};
 use reference::random::Random;
@@ -136,7 +136,7 @@ fn every_key_length() {
     }
 }
 
-/// Every byte at every place of the two codes, sealed along.
+/// Every byte at every place of the two codes, sealed along: a letter is all that is asked for.
 #[test]
 fn every_byte_in_a_code() {
     let mut random = Random::new(SEED + 5);
@@ -147,17 +147,15 @@ fn every_byte_in_a_code() {
         parts.units = vec![unit_fields(&book, 0, 0, codes, &[0, 1, 2]).concat()];
         parts.close = close_fields(&book, 1, 1).concat();
         let bytes = parts.joined();
-        if !byte.is_ascii_lowercase() {
-            refuses(&book.key, &bytes, 11, "no letter");
-        } else if codes[..2] == codes[2..] {
-            refuses(&book.key, &bytes, 11, "the same code");
-            equal += 1;
-        } else {
-            accepts(&book.key, &bytes, 1, 7, "two codes");
+        if byte.is_ascii_lowercase() {
+            accepts(&book.key, &bytes, 1, 7, "letters");
             passed += 1;
+            equal += usize::from(codes[..2] == codes[2..]);
+        } else {
+            refuses(&book.key, &bytes, 11, "no letter");
         }
     }
-    assert_eq!((passed, equal), (4 * 25, 4));
+    assert_eq!((passed, equal), CODES_OF_LETTERS);
 }
 
 /// Where each field begins and ends: those before the close in a book with a unit of 11 bytes, and those of

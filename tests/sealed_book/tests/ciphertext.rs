@@ -86,7 +86,7 @@ fn book_vectors_hold() {
             part(&v.book, k, &name);
         }
     }
-    assert_eq!(units, 14 + 29);
+    assert_eq!(units, 14 + 37);
 }
 
 /// Known value 8's field 11 has its 13 bytes at 28, and at 30 as the writer makes it.

@@ -93,7 +93,7 @@ fn book_vectors_hold() {
             unit(&v.book, Walked(k), &name).ok();
         }
     }
-    assert_eq!(units, 14 + 29);
+    assert_eq!(units, 14 + 37);
 }
 
 /// Known value 8, as printed, and as the writer makes it.

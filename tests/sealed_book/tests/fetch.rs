@@ -64,7 +64,7 @@ fn book_vectors_hold() {
             without += 1;
         }
     }
-    assert_eq!((units, without), (14 + 29, 72 + 67));
+    assert_eq!((units, without), (14 + 37, 72 + 64));
 }
 
 /// Known value 8, as printed, and as the writer makes it.

@@ -81,7 +81,7 @@ fn book_vectors_hold() {
             }
         }
     }
-    assert_eq!(units, 14 + 29);
+    assert_eq!(units, 14 + 37);
 }
 
 #[test]

@@ -401,12 +401,12 @@ fn sealed_parts_exchanged() {
 fn sealed_for_another_place() {
     let mut random = Random::new(SEED + 10);
     for suite in SUITES {
-        let book = three_units(&mut random, suite);
+        let mut book = three_units(&mut random, suite);
+        (book.units[1].from, book.units[1].to) = (*b"en", *b"de");
         let parts = Parts::of(&book);
         let text = book.units[1].text();
         let unit = |running, number, codes| unit_fields(&book, running, number, codes, &text);
-        let Unit { from, to, .. } = book.units[1];
-        let codes = [from[0], from[1], to[0], to[1]];
+        let codes = *b"ende";
         let mut exchanged = unit(1, 1, codes);
         let end = exchanged[0].len();
         exchanged[0][end - 4..].rotate_left(2);

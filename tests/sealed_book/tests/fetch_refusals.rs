@@ -12,7 +12,7 @@ use common::parts::{
 };
 use common::spoiled::{spoiled, Cause, Cause::*, CLOSE, UNIT_FRAME, WALK};
 use common::spoiling::{text, LONG_TEXTS};
-use common::{codes_with_each_byte, UNLISTED};
+use common::{codes_with_each_byte, CODES_OF_LETTERS, UNLISTED};
 use reference::book::{places, Book, Kind, Unit};
 use reference::cipher::{listed, SUITES};
 use reference::random::Random;
@@ -133,7 +133,8 @@ fn with_unit(book: &Book, unit: [Vec<u8>; 3]) -> Vec<u8> {
     parts.joined()
 }
 
-/// Every byte at every place of the two codes, sealed along: at the unit and in the walk.
+/// Every byte at every place of the two codes, sealed along, at the unit and in the walk: a letter is all that is
+/// asked for.
 #[test]
 fn every_byte_in_a_code() {
     let mut random = Random::new(SEED + 6);
@@ -147,20 +148,19 @@ fn every_byte_in_a_code() {
     for (byte, codes) in codes_with_each_byte() {
         let bytes = with_unit(&book, unit_fields(&book, 1, 1, codes, &[0, 1, 2]));
         fetches(&book.key, &bytes, Walked(0), &book.units[0], "before it");
-        let same = codes[..2] == codes[2..];
-        if byte.is_ascii_lowercase() && !same {
-            fetches(&book.key, &bytes, Walked(1), &one, "two codes");
+        if byte.is_ascii_lowercase() {
+            fetches(&book.key, &bytes, Walked(1), &one, "letters");
             fetches(&book.key, &bytes, Walked(2), &book.units[2], "behind it");
             refuses(&book.key, &bytes, Walked(3), 16, "behind it");
             passed += 1;
+            equal += usize::from(codes[..2] == codes[2..]);
         } else {
             for k in 1..4 {
-                refuses(&book.key, &bytes, Walked(k), 11, "no pair");
+                refuses(&book.key, &bytes, Walked(k), 11, "no letter");
             }
-            equal += usize::from(same);
         }
     }
-    assert_eq!((passed, equal), (4 * 25, 4));
+    assert_eq!((passed, equal), CODES_OF_LETTERS);
 }
 
 /// Where each field begins and ends: those before the close in a book with a unit of 11 bytes, and then

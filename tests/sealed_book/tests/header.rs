@@ -6,6 +6,7 @@ use std::env;
 use std::path::PathBuf;
 use std::process::Command;
 
+use common::document::read;
 use common::hex;
 use common::program::archive;
 use reference::sealing::{header_limit, text_limit};
@@ -34,7 +35,7 @@ fn about_lengths() -> Vec<String> {
     let [unit, book] = [raw::unit_room(5, 6), raw::book_room(1, 11)];
     let longest = raw::book_room(16_777_215, 16_777_215 * 8_192);
     let mut lines = vec![
-        "version 3".to_string(),
+        "version 4".to_string(),
         format!("lengths {}", lengths.map(|len| len.to_string()).join(" ")),
         format!("rooms {unit} {book} {longest}"),
     ];
@@ -59,6 +60,7 @@ fn about_the_book() -> Vec<String> {
         format!("start 0 {started}"),
         format!("add 0 {added}"),
         format!("languages 11 {added}"),
+        format!("languages 11 {added}"),
         format!("segment 12 {added}"),
         format!("short 7 {added}"),
         format!("close 0 {closed}"),
@@ -80,6 +82,30 @@ fn about_the_book() -> Vec<String> {
         "ciphertext 30 13".to_string(),
         "ciphertext 0 0".to_string(),
         "ciphertext 0 0".to_string(),
+    ]
+}
+
+/// What it says of a book with a unit whose two codes are the same, from the reference.
+fn same_codes() -> Vec<String> {
+    let mut book = [0; 88];
+    let (started, _) = start(1, 10, &[0; 16], 9, &mut book);
+    let (added, answer) = started.add(&mut book, *b"en", *b"en", b"valve", b"valves");
+    assert_eq!(answer, Ok(()));
+    let (_, answer) = added.close(&mut book);
+    assert_eq!(answer, Ok(()));
+    let en = hex(b"en\0\0");
+    vec![
+        format!("same 0 {}", hex(&added.encoded())),
+        format!("same 0 {}", hex(&book)),
+        "check 0 units 1 calls 7".to_string(),
+        format!("fetch 0 {}", hex(b"valvevalves\xFF")),
+        "source 5 target 6".to_string(),
+        format!("unit 0 {en}"),
+        format!("to 2 {en}"),
+        "at 16 from 2 ciphertext 30 13 next 62".to_string(),
+        format!("page 0 {}", hex(b"    5   857\n")),
+        "check 8 units 7 calls 8".to_string(),
+        "check 11 units 7 calls 8".to_string(),
     ]
 }
 
@@ -216,12 +242,38 @@ fn client_in_c() {
         about_the_book(),
         pages(),
         in_the_clear(),
+        same_codes(),
         texts(),
         at_last(),
     ]
     .concat();
     let expected = [&about_lengths()[..], &expected, &book].concat();
     assert_eq!(text.lines().collect::<Vec<_>>(), expected);
+}
+
+/// "11's cause is now exactly a byte that is no letter a to z": the words of 11, in the crate, in the
+/// header and on the page of refusals.
+#[test]
+fn text_of_11() {
+    let refusal = Refusal::from_number(11).expect("a refusal");
+    let text = "a language code has a byte that is no letter a to z";
+    assert_eq!(refusal.to_string(), text);
+    let header = read("include/sealed_book.h");
+    let lines = |start: &str| {
+        let lines = header.lines().filter(|line| line.contains(start));
+        lines.collect::<Vec<_>>()
+    };
+    for (start, due) in [
+        ("#define SB_LANGUAGES ", format!("/* {text} */")),
+        ("case SB_LANGUAGES:", format!("return \"{text}\";")),
+    ] {
+        let [line] = lines(start)[..] else {
+            panic!("one line with {start}");
+        };
+        assert!(line.ends_with(&due), "{line}");
+    }
+    let row = format!("| 11 | `SB_LANGUAGES` | {text} |");
+    assert!(read("docs/REFUSALS.md").contains(&row), "{row}");
 }
 
 /// The lengths and limits are those of the scope and of the requests.

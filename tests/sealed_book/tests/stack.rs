@@ -174,7 +174,7 @@ fn writing(most: &mut Most, book: &Book) -> Vec<u8> {
         let (from, to) = (unit.from.as_ptr(), unit.to.as_ptr());
         let (source, target) = (unit.source.as_ptr(), unit.target.as_ptr());
         let (s, t) = (unit.source.len(), unit.target.len());
-        for (to, expected) in [(from, 11), (to, 0)] {
+        for (to, expected) in [(b"eN".as_ptr(), 11), (to, 0)] {
             // SAFETY: the same, and the codes have two bytes.
             let returned = most.measure("sb_add", || unsafe {
                 sb_add(bytes, start, len, from, to, source, s, target, t)

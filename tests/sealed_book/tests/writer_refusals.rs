@@ -4,7 +4,7 @@ mod common;
 
 use common::causes::{first_is_given, sets, CASES};
 use common::writing::{unit, Call, Desk};
-use common::{codes_with_each_byte, UNLISTED};
+use common::{codes_with_each_byte, CODES_OF_LETTERS, UNLISTED};
 use reference::book::Unit;
 use reference::cipher::{listed, SUITES};
 use reference::random::Random;
@@ -90,18 +90,18 @@ fn start_gives_the_first_cause() {
     });
 }
 
-/// A language pair that is not allowed.
+/// Two codes of which one has a byte that is no letter, or each, in codes that are the same.
 fn bad_languages(random: &mut Random, unit: &mut Unit) {
-    if random.below(4) == 0 {
-        unit.to = unit.from;
-        return;
-    }
     let byte = random.one_of(&[0, b' ', b'0', b'A', b'Z', b'`', b'{', 0xE1]);
-    let code = match random.below(2) {
-        0 => &mut unit.from,
-        _ => &mut unit.to,
-    };
-    code[random.below(2)] = byte;
+    let at = random.below(2);
+    match random.below(4) {
+        0 => {
+            unit.from[at] = byte;
+            unit.to = unit.from;
+        }
+        1 => unit.to[at] = byte,
+        _ => unit.from[at] = byte,
+    }
 }
 
 /// Segments of which one, or each, has a length that is out of range.
@@ -217,7 +217,7 @@ fn every_key_length() {
     }
 }
 
-/// Every byte at every place of the two codes.
+/// Every byte at every place of the two codes: a letter is all that is asked for.
 #[test]
 fn every_byte_in_a_code() {
     let mut random = Random::new(SEED + 5);
@@ -228,17 +228,15 @@ fn every_byte_in_a_code() {
         (unit.from, unit.to) = ([f0, f1], [t0, t1]);
         let mut desk = Desk::new(&mut random, 100);
         desk.writer = writer(&mut random, 16).encoded();
-        if !byte.is_ascii_lowercase() {
-            desk.refuses(&Call::Add(unit), 100, 11, "no letter");
-        } else if unit.from == unit.to {
-            desk.refuses(&Call::Add(unit), 100, 11, "the same code");
-            equal += 1;
-        } else {
-            desk.passes(&Call::Add(unit), 100, "two codes");
+        if byte.is_ascii_lowercase() {
             passed += 1;
+            equal += usize::from(unit.from == unit.to);
+            desk.passes(&Call::Add(unit), 100, "letters");
+        } else {
+            desk.refuses(&Call::Add(unit), 100, 11, "no letter");
         }
     }
-    assert_eq!((passed, equal), (4 * 25, 4));
+    assert_eq!((passed, equal), CODES_OF_LETTERS);
 }
 
 /// Every code with itself, with its letters exchanged, and with one letter of it.
@@ -252,10 +250,7 @@ fn every_code() {
                 let mut unit = unit(&mut random, 1, 0);
                 (unit.from, unit.to) = ([a, b], to);
                 let mut desk = Desk::with(&mut random, writer(&mut Random::new(1), 16), 52);
-                match unit.from == to {
-                    true => desk.refuses(&Call::Add(unit), 52, 11, "the same code"),
-                    false => desk.passes(&Call::Add(unit), 52, "two codes"),
-                }
+                desk.passes(&Call::Add(unit), 52, "letters");
             }
         }
     }

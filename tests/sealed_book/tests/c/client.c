@@ -72,7 +72,7 @@ int main(void) {
     print("none", returned, NULL, 0);
 
     /* a book of one unit, in a buffer with 4 bytes to spare */
-    const uint8_t en[SB_CODE_LEN] = {'e', 'n'}, de[SB_CODE_LEN] = {'d', 'e'};
+    const uint8_t en[SB_CODE_LEN] = {'e', 'n'}, de[SB_CODE_LEN] = {'d', 'e'}, capital[SB_CODE_LEN] = {'e', 'N'};
     const uint8_t valve[5] = {'v', 'a', 'l', 'v', 'e'}, ventil[6] = {'V', 'e', 'n', 't', 'i', 'l'};
     uint8_t book[SB_BOOK_ROOM(1, sizeof valve + sizeof ventil) + 4], writer[SB_WRITER_LEN];
     const size_t book_len = sizeof book - 4;
@@ -81,7 +81,8 @@ int main(void) {
     print("start", sb_start(SB_SCREAM, 10, key, sizeof key, 7, book, sizeof book, writer), writer, sizeof writer);
     returned = sb_add(writer, book, sizeof book, en, de, valve, sizeof valve, ventil, sizeof ventil);
     print("add", returned, writer, sizeof writer);
-    print("languages", sb_add(writer, book, sizeof book, en, en, valve, sizeof valve, NULL, 0), writer, sizeof writer);
+    print("languages", sb_add(writer, book, sizeof book, en, capital, valve, sizeof valve, NULL, 0), writer, sizeof writer);
+    print("languages", sb_add(writer, book, sizeof book, capital, capital, valve, sizeof valve, NULL, 0), writer, sizeof writer);
     print("segment", sb_add(writer, book, sizeof book, en, de, NULL, 0, NULL, 0), writer, sizeof writer);
     print("short", sb_close(writer, book, book_len - 1), writer, sizeof writer);
     print("close", sb_close(writer, book, sizeof book), writer, sizeof writer);
@@ -192,6 +193,31 @@ int main(void) {
     print("to", (uint32_t)to_len, to, sizeof to);
     printf("at %u from %u ciphertext %u %u next %u\n", (unsigned)begins, (unsigned)from_len, (unsigned)at, (unsigned)part,
            (unsigned)next);
+
+    /* a book with a unit from en to en; then with another code in its header, and with one that has a byte that is no letter */
+    uint8_t same[SB_BOOK_ROOM(1, sizeof valve + sizeof valves)];
+    if (sb_start(SB_SCREAM, 10, key, sizeof key, 9, same, sizeof same, second) != 0) return 1;
+    print("same", sb_add(second, same, sizeof same, en, en, valve, sizeof valve, valves, sizeof valves), second, sizeof second);
+    print("same", sb_close(second, same, sizeof same), same, sizeof same);
+    returned = sb_check(key, sizeof key, same, sizeof same, &units, &calls);
+    printf("check %u units %u calls %u\n", (unsigned)returned, (unsigned)units, (unsigned)calls);
+    memset(out, 0xFF, sizeof out);
+    returned = sb_fetch(key, sizeof key, same, sizeof same, 0, out, sizeof out, &source, &target);
+    print("fetch", returned, out, sizeof out);
+    printf("source %u target %u\n", (unsigned)source, (unsigned)target);
+    returned = sb_unit(same, sizeof same, 0, &begins, from, &from_len, to, &to_len, &at, &part, &next);
+    print("unit", returned, from, sizeof from);
+    print("to", (uint32_t)to_len, to, sizeof to);
+    printf("at %u from %u ciphertext %u %u next %u\n", (unsigned)begins, (unsigned)from_len, (unsigned)at, (unsigned)part,
+           (unsigned)next);
+    print("page", sb_page(key, sizeof key, same, sizeof same, valves, sizeof valves, page, SB_ROW_LEN, &len), page, SB_ROW_LEN);
+    units = 7, calls = 8;
+    same[26] = 'o';
+    returned = sb_check(key, sizeof key, same, sizeof same, &units, &calls);
+    printf("check %u units %u calls %u\n", (unsigned)returned, (unsigned)units, (unsigned)calls);
+    same[24] = same[26] = 'N';
+    returned = sb_check(key, sizeof key, same, sizeof same, &units, &calls);
+    printf("check %u units %u calls %u\n", (unsigned)returned, (unsigned)units, (unsigned)calls);
 
     /* the words of every refusal, and of numbers that are none */
     for (unsigned i = 0; i <= 40; i++) printf("text %u %s\n", i, sb_refusal_text(i));

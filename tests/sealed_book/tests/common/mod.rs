@@ -44,16 +44,23 @@ pub fn refusal(number: u32) -> Refusal {
     Refusal::from_number(number).expect("a refusal's number")
 }
 
-/// Two language codes with each byte at each place: the byte, and the codes, of which four times two are
-/// the same.
+/// Two language codes with each byte at each place, and at the same place of both: the byte, and the codes. Of the
+/// letters, four make two codes the same, and each does where it stands in both.
 pub fn codes_with_each_byte() -> impl Iterator<Item = (u8, [u8; 4])> {
-    let places = (0..4).flat_map(|at| (0..=255).map(move |byte| (at, byte)));
+    let places = (0..6).flat_map(|at| (0..=255).map(move |byte| (at, byte)));
     places.map(|(at, byte): (usize, u8)| {
         let mut codes = if at % 2 == 0 { *b"enin" } else { *b"esen" };
-        codes[at] = byte;
+        match at {
+            0..4 => codes[at] = byte,
+            4 => codes = [byte, b'n', byte, b'n'],
+            _ => codes = [b'e', byte, b'e', byte],
+        }
         (byte, codes)
     })
 }
+
+/// How many of these codes are letters, and how many of them are twice the same code.
+pub const CODES_OF_LETTERS: (usize, usize) = (6 * 26, 4 + 2 * 26);
 
 /// Bytes in hexadecimal.
 pub fn hex(bytes: &[u8]) -> String {

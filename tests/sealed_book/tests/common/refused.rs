@@ -5,7 +5,7 @@ use reference::cipher::SUITES;
 use reference::random::Random;
 
 use super::parts::{another, close_fields, random_book, unit_fields, Parts};
-use super::spoiling::{bad_ciphertext, bad_codes, bad_text, spoil, text};
+use super::spoiling::{bad_ciphertext, bad_codes, bad_text, good_codes, spoil, text};
 use super::{causes, UNLISTED};
 
 /// The causes in the order in which they are given; the close's are those after `Lengths`. `FullBook` is that of
@@ -94,7 +94,7 @@ pub fn spoiled(
     };
     let codes = match has(Languages) {
         true => bad_codes(random),
-        false => *b"ende",
+        false => good_codes(random),
     };
     let text = match has(Lengths) {
         true => bad_text(random),

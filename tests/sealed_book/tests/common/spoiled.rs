@@ -7,7 +7,7 @@ use reference::cipher::SUITES;
 use reference::random::Random;
 
 use super::parts::{another, close_fields, random_book, unit_fields, Parts};
-use super::spoiling::{bad_ciphertext, bad_codes, bad_text, spoil, text};
+use super::spoiling::{bad_ciphertext, bad_codes, bad_text, good_codes, spoil, text};
 use super::{causes, UNLISTED};
 
 /// The causes in the order in which they are given. Those of a unit that is walked past stand before
@@ -110,7 +110,7 @@ fn some_unit(
     };
     let codes = match causes.languages {
         true => bad_codes(random),
-        false => *b"ende",
+        false => good_codes(random),
     };
     let text = match causes.lengths {
         true if random.below(16) == 0 => bad_text(random),

@@ -6,17 +6,21 @@ use reference::random::Random;
 use super::parts::{close_fields, number_in, unit_fields};
 use super::UNLISTED;
 
-/// Four letters that are no allowed pair.
+/// Two codes of which one has a byte that is no letter, or each at the same place, in codes that are the same.
 pub fn bad_codes(random: &mut Random) -> [u8; 4] {
+    let byte = random.one_of(&[0, b' ', b'0', b'A', b'Z', b'`', b'{', 0xE1]);
     let mut codes = *b"ende";
-    match random.below(3) {
-        0 => codes = *b"dede",
-        _ => {
-            let byte = random.one_of(&[0, b' ', b'0', b'A', b'Z', b'`', b'{', 0xE1]);
-            codes[random.below(4)] = byte;
-        }
+    codes[random.below(4)] = byte;
+    match random.below(6) {
+        0 => [byte, b'e', byte, b'e'],
+        1 => [b'd', byte, b'd', byte],
+        _ => codes,
     }
-    codes
+}
+
+/// Two codes of letters, which are the same every third time.
+pub fn good_codes(random: &mut Random) -> [u8; 4] {
+    random.one_of(&[*b"ende", *b"ende", *b"enen"])
 }
 
 /// A text with this s and so many bytes after it.
@@ -121,7 +125,7 @@ pub fn some_frames(random: &mut Random, book: &Book) -> Vec<u8> {
         let number = running ^ usize::from(rarely(random));
         let codes = match rarely(random) {
             true => bad_codes(random),
-            false => *b"ende",
+            false => good_codes(random),
         };
         let m = match random.below(40) {
             0 => random.one_of(&[0, 1, 2, 8_193, 8_194, 8_195, 9_000]),
