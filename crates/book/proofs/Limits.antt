@@ -6,7 +6,7 @@ use mathlib.Core.Logic.{_≢_}
 use Prim.Native.Nat.{ℕ, zero, suc, _+_, _-_, _^_, _≤_, _<_}
 use native.Mathlib.Nat.{add-zero, add-suc}
 use native.Mathlib.Omega.{arith}
-use borrow.Author.Tests.{eq-eqb, ne-eqb, lt-ltb, ltb-true, ltb-false}
+use borrow.Author.Tests.{ne-eqb, lt-ltb, ltb-true, ltb-false}
 use lib.Dec.{eqb, ltb}
 use lib.ListN.{length}
 use Rattle.bits.specs.Bytes.{Bytes}
@@ -29,7 +29,6 @@ use Rattle.suites.specs.Refusal.{number}
 use Rattle.suites.specs.Suite.{listed}
 use Rattle.suites.specs.Told.{refuses}
 use Rattle.limits.specs.Tests.{unless}
-use Rattle.limits.proofs.Passed.{unless-passes}
 use Rattle.fields.specs.Each.{EachFrom, noneFrom, moreFrom}
 use Rattle.fields.specs.Field.{field, fieldHead, fieldLength, hasField, afterField}
 use Rattle.fields.specs.Kind.{Kind, WellFormed, kind10, kind14}
@@ -62,12 +61,13 @@ use Rattle.parser.specs.Frame.{
 }
 use Rattle.opening_fields.specs.Opening.{hasOpening, openingNumber, openingSuite, openingBytes, afterOpening, openingTests, checkTests}
 use Rattle.parser.proofs.Frames.{number-fits, no-header}
-use Rattle.opening_fields.proofs.Openings.{opening-here, front-here, front-says}
+use Rattle.opening_fields.proofs.Openings.{front-says}
 use Rattle.seals.specs.Seal.{unitAgrees, unitOpened, closeAgrees, unitSealTests, closeSealTests}
 use Rattle.checker.specs.Check.{checkTold, withSeal, checkedAt, byFrame, checkFrom, afterTests, checkAnswerOf, checkAnswer}
 use Rattle.checker.specs.declared.check.CheckAnswer.{CheckAnswer}
 use Rattle.checker.specs.declared.check.CheckAnswer.the-variants.{Accepted, Refused as CheckRefused}
 use Rattle.checker.proofs.BookKinds.{behind}
+use Rattle.checker.proofs.Exact.{opens}
 use Rattle.checker.proofs.From.{from-step}
 use Rattle.checker.proofs.Units.{bytes-rest, unit-written}
 use Rattle.book.specs.Limits.{ManyUnits, unitsThen, headerThere, closeThere, LimitLaw, OneKindLaw}
@@ -276,20 +276,17 @@ module _ (k : BookKind) (suite : Suite) (key : List ℕ) (number : ℕ) (rest : 
       → n ≤ 256 ^ kindOf k .numberBytes → (answer : CheckAnswer)
       → ((t : ℕ) → checkFrom (kindOf k) key (openingFields suite number) left n t rest ≡ answer)
       → checkAnswer key (unitsThen (kindOf k) suite key number us rest) ≡ answer
-  unfolding checkAnswer checkAnswerOf checkTests
+  unfolding checkAnswer checkAnswerOf
   answers us n left many some all more fits answer then =
       let kind = kindOf k in
       let f : List ℕ = openingFields suite number in
       let r : List ℕ = unitsBytes kind suite key number 0 us ++ rest in
       let x : List ℕ = f ++ r in
       let count = many .count in
-      let h = opening-here suite number r (many .numberFits) (many .listedSuite) in
       let says = front-says suite number (many .numberFits) in
-      let tests : checkTests (length key) x ≡ Done =
-      unless-passes (eqb (length key) 16) KeyLength (openingTests x) (eq-eqb (length key) 16 (many .keyLong)) (h .0) in
       let enough : suc mostUnits ≡ left + length us = omega arith in
       ap (λ (q : BookKind). checkAnswerOf (kindOf q) key x) (units-kind us (omega arith))
-      ∙ (λ j. afterTests (tests j) (checkFrom kind key (front-here suite number r j) (suc mostUnits) 0 0 (h .3 j)))
+      ∙ opens suite key number r (many .listedSuite) (many .keyLong) (many .numberFits) (λ o q. checkFrom kind key o (suc mostUnits) 0 0 q)
       ∙ (λ j. checkFrom kind key f (enough j) 0 0 (unitsBytes kind (sym (says .0) j) key (sym (says .1) j) 0 us ++ rest))
       ∙ comes-to kind (formed k) key f (λ j. openingFields (sym (says .0) j) (sym (says .1) j)) (many .keyLong) (many .keyBytes) rest answer
       left 0 0 us (many .units) (omega arith) (omega arith)

@@ -5,16 +5,12 @@ use mathlib.Core.List.{List, [], _∷_, _++_}
 use mathlib.Core.Logic.{_↔_, _≢_}
 use Prim.Native.Nat.{ℕ, zero, suc, _+_, _^_, _≤_, _<_}
 use native.Mathlib.Omega.{arith}
-use borrow.Author.Tests.{eq-eqb}
-use lib.Dec.{eqb}
 use lib.ListN.{length}
 use Rattle.bits.specs.Bytes.{Bytes, sameBytes}
 use Rattle.bits.proofs.Same.{same-equal, same-refl}
-use Rattle.suites.specs.declared.refusal.Answer.the-variants.{Done}
-use Rattle.suites.specs.declared.refusal.Refusal.the-variants.{KeyLength, LanguagesNotAllowed}
+use Rattle.suites.specs.declared.refusal.Refusal.the-variants.{LanguagesNotAllowed}
 use Rattle.suites.specs.declared.suite.Suite.{Suite}
 use Rattle.suites.specs.Told.{gives, refuses}
-use Rattle.limits.proofs.Passed.{unless-passes}
 use Rattle.fields.specs.Each.{EachFrom, noneFrom, moreFrom}
 use Rattle.fields.specs.Kind.{Kind, WellFormed}
 use Rattle.fields.specs.Languages.{letters, pairAllowed}
@@ -28,14 +24,14 @@ use Rattle.format.specs.Sealings.{openingFields}
 use Rattle.parser.specs.declared.frame.Frame.the-variants.{Unit, Close, Refused as FrameRefused}
 use Rattle.parser.specs.Frame.{mostUnits, afterUnit, Readable}
 use Rattle.parser.proofs.Frames.{readable}
-use Rattle.opening_fields.specs.Opening.{openingNumber, openingSuite, openingBytes, afterOpening, openingTests, checkTests}
-use Rattle.opening_fields.proofs.Openings.{opening-here, front-here, front-says}
+use Rattle.opening_fields.specs.Opening.{openingNumber, openingSuite, openingBytes, afterOpening, checkTests}
+use Rattle.opening_fields.proofs.Openings.{front-says}
 use Rattle.checker.specs.Check.{checkTold, checkedAt, afterTests, checkAnswer}
 use Rattle.checker.specs.declared.check.CheckAnswer.{CheckAnswer}
 use Rattle.checker.specs.declared.check.CheckAnswer.the-variants.{Refused as CheckRefused}
 use Rattle.checker.proofs.BookKinds.{own-kind}
 use Rattle.checker.proofs.Closes.{close-written}
-use Rattle.checker.proofs.Exact.{book-is}
+use Rattle.checker.proofs.Exact.{opens, book-is}
 use Rattle.checker.proofs.From.{bytesFrom, bytes-none, bytes-more}
 use Rattle.checker.proofs.Units.{unit-written, unit-codes}
 use Rattle.book.specs.Demand3.{History, after, unitsAdded, LeavesBook}
@@ -98,22 +94,10 @@ module _ (rule : Rule) (kind : Kind) (wf : WellFormed kind) (key o : List ℕ) (
           ∙ sym (step-under pairAllowed kind key o left n total s (Unit m) there))
       by false m rest s then there under more = step-under rule kind key o left n total s (FrameRefused LanguagesNotAllowed) under
 
--- a book, whatever is done with its frames
+-- a book
 module _ (kind : Kind) (suite : Suite) (key : List ℕ) (number : ℕ) (us : List BookUnit) (book : Bookable kind suite key number us) where
   abbrev front : List ℕ
   front = openingFields suite number
-
-  opens : (frames : List ℕ → List ℕ → CheckAnswer) → let x = bookBytes kind suite key number us in
-      afterTests (checkTests (length key) x) (frames (openingBytes x) (afterOpening x)) ≡ frames front (bytesFrom kind suite key number 0 us)
-  unfolding checkTests
-  opens frames =
-      let r : List ℕ = bytesFrom kind suite key number 0 us in
-      let x : List ℕ = front ++ r in
-      let h = opening-here suite number r (book .numberFits) (book .listedSuite) in
-      let tests : checkTests (length key) x ≡ Done =
-      unless-passes (eqb (length key) 16) KeyLength (openingTests x) (eq-eqb (length key) 16 (book .keyLong)) (h .0) in
-      (λ i. let y = book-is kind suite key number us i in afterTests (checkTests (length key) y) (frames (openingBytes y) (afterOpening y)))
-      ∙ (λ j. afterTests (tests j) (frames (front-here suite number r j) (h .3 j)))
 
   -- check over a rule, and over the one that holds now
   abbrev over : Rule → CheckAnswer
@@ -126,7 +110,9 @@ module _ (kind : Kind) (suite : Suite) (key : List ℕ) (number : ℕ) (us : Lis
       let says = front-says suite number (book .numberFits) in
       let runs : Rule → List ℕ → List ℕ → CheckAnswer = λ rule o r. checkFromUnder rule kind key o (suc mostUnits) 0 0 r in
       let named : (rule : Rule) → over rule ≡ runs rule front (bytesFrom kind (openingSuite front) key (openingNumber front) 0 us) =
-      λ rule. opens (runs rule) ∙ (λ i. runs rule front (bytesFrom kind (sym (says .0) i) key (sym (says .1) i) 0 us)) in
+      λ rule. (λ i. let y = book-is kind suite key number us i in afterTests (checkTests (length key) y) (runs rule (openingBytes y) (afterOpening y)))
+      ∙ opens suite key number (bytesFrom kind suite key number 0 us) (book .listedSuite) (book .keyLong) (book .numberFits) (runs rule)
+      ∙ (λ i. runs rule front (bytesFrom kind (sym (says .0) i) key (sym (says .1) i) 0 us)) in
       named rule
       ∙ units-under rule kind (reads .wellFormed) key front (λ i. openingFields (sym (says .0) i) (sym (says .1) i)) (book .keyLong) (book .keyBytes)
       (suc mostUnits) 0 0 us (book .units) (omega arith) (omega arith) (omega arith)

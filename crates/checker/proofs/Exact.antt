@@ -1,7 +1,8 @@
 -- The checker's half of demand 3 holds: check accepts exactly the books of the layout.
 use mathlib.Core.Path.{_≡_, refl, sym, ap, _∙_}
+use mathlib.Core.Bool.{true}
 use mathlib.Core.List.{List, [], _∷_, _++_}
-use Prim.Native.Nat.{ℕ, suc, _+_}
+use Prim.Native.Nat.{ℕ, suc, _+_, _^_, _<_}
 use native.Mathlib.Nat.{zero-add}
 use native.Mathlib.Omega.{arith}
 use borrow.Author.Tests.{eqb-true, eq-eqb}
@@ -13,6 +14,7 @@ use Rattle.suites.specs.declared.refusal.Answer.{Answer}
 use Rattle.suites.specs.declared.refusal.Answer.the-variants.{Done, Refused}
 use Rattle.suites.specs.declared.refusal.Refusal.the-variants.{KeyLength}
 use Rattle.suites.specs.declared.suite.Suite.{Suite}
+use Rattle.suites.specs.Suite.{listed}
 use Rattle.limits.proofs.Passed.{unless-passed, unless-passes}
 use Rattle.fields.specs.Kind.{Kind}
 use Rattle.format.specs.Layout.{unitsBytes, closeBytes, bookBytes}
@@ -30,6 +32,18 @@ use Rattle.checker.proofs.From.{bytesFrom, sealingsFrom, from-told, fro
 tests-accepted : (a : Answer) (w : CheckAnswer) (n t : ℕ) → afterTests a w ≡ Accepted n t → (a ≡ Done) × (w ≡ Accepted n t)
 tests-accepted Done w n t e = (refl, e)
 tests-accepted (Refused why) w n t e = let z : _≡_ {A = ℕ} 0 1 = cc in absurd (omega arith)
+
+-- behind opening fields as a writer makes them the tests before the frames are done, whatever is done with the frames
+pub opens : (suite : Suite) (key : List ℕ) (number : ℕ) (r : List ℕ) → listed (suite .cipher) (suite .steps) ≡ true → length key ≡ 16 → number < 2 ^ 64
+    → (frames : List ℕ → List ℕ → CheckAnswer) → let x = openingFields suite number ++ r in
+    afterTests (checkTests (length key) x) (frames (openingBytes x) (afterOpening x)) ≡ frames (openingFields suite number) r
+unfolding checkTests
+opens suite key number r ok long fits frames =
+    let x : List ℕ = openingFields suite number ++ r in
+    let h = opening-here suite number r fits ok in
+    let tests : checkTests (length key) x ≡ Done =
+    unless-passes (eqb (length key) 16) KeyLength (openingTests x) (eq-eqb (length key) 16 long) (h .0) in
+    λ j. afterTests (tests j) (frames (front-here suite number r j) (h .3 j))
 
 -- a book is its opening fields, then its frames
 pub book-is : (kind : Kind) (suite : Suite) (key : List ℕ) (number : ℕ) (us : List BookUnit)
@@ -79,7 +93,7 @@ module _ (kind : Kind) (readable : Readable kind) (key s : List ℕ) (n t : ℕ)
       }
 
   is-accepted : IsBook kind key s n t → checkAnswerOf kind key s ≡ Accepted n t
-  unfolding checkAnswerOf checkTests
+  unfolding checkAnswerOf
   is-accepted i =
       let suite = i .suite in
       let number = i .number in
@@ -87,16 +101,12 @@ module _ (kind : Kind) (readable : Readable kind) (key s : List ℕ) (n t : ℕ)
       let book = i .bookable in
       let r : List ℕ = bytesFrom kind suite key number 0 us in
       let f : List ℕ = openingFields suite number in
-      let x : List ℕ = f ++ r in
-      let h = opening-here suite number r (book .numberFits) (book .listedSuite) in
       let says = front-says suite number (book .numberFits) in
-      let tests : checkTests (length key) x ≡ Done =
-      unless-passes (eqb (length key) 16) KeyLength (openingTests x) (eq-eqb (length key) 16 (book .keyLong)) (h .0) in
       let c : 0 + length us ≡ n = zero-add (length us) ∙ i .count in
       let calls : 0 + callTotal (sealingsFrom kind suite number 0 us) ≡ t =
       zero-add (callTotal (sealingsFrom kind suite number 0 us)) ∙ ap callTotal (sym (sealings-are kind suite number us)) ∙ i .total in
       ap (checkAnswerOf kind key) (sym (i .bytes) ∙ book-is kind suite key number us)
-      ∙ (λ j. afterTests (tests j) (checkFrom kind key (front-here suite number r j) (suc mostUnits) 0 0 (h .3 j)))
+      ∙ opens suite key number r (book .listedSuite) (book .keyLong) (book .numberFits) (λ o q. checkFrom kind key o (suc mostUnits) 0 0 q)
       ∙ (λ j. checkFrom kind key f (suc mostUnits) 0 0 (bytesFrom kind (sym (says .0) j) key (sym (says .1) j) 0 us))
       ∙ from-here kind key f (λ j. openingFields (sym (says .0) j) (sym (says .1) j)) (book .keyLong) (book .keyBytes) (readable .wellFormed)
       (suc mostUnits) 0 0 us (book .units)
