@@ -9,7 +9,7 @@ ghost use Rattle.text_blocks.specs.Under.{enciphers};
 use suites::suite::Suite;
 
 // The header's blocks enciphered and added up, and what is added to the last block of a text; of an empty text any bytes.
-#[derive(Drop)]
+#[derive(Clone, Copy)]
 pub struct SumAndPad {
     pub sum: [u8; 16],
     pub pad: [u8; 16],

@@ -1,9 +1,11 @@
 // The numbers of blocks: of a text and of a header, "two separate counts from 0". Each is a type of its own, of 32 bits, and only here is
 // one made: a count begins at `start` and goes on by `after`, so that the number of the one is not taken for that of the other by mistake.
+#![tactic(auto)]
+
 ghost use Rattle.std.specs.Prelude.{◌≡◌, ◌+◌, ◌*◌, ◌^◌, ◌<◌};
 
 // The number of a text block.
-#[derive(Drop)]
+#[derive(Clone, Copy)]
 pub struct TextBlock(u32);
 
 impl TextBlock {
@@ -39,7 +41,7 @@ impl TextBlock {
 }
 
 // The number of a header block.
-#[derive(Drop)]
+#[derive(Clone, Copy)]
 pub struct HeaderBlock(u32);
 
 impl HeaderBlock {

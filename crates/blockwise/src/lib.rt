@@ -1,4 +1,6 @@
 // Bytes and blocks in a slice: bytes copied; how many blocks there are, one read, one put.
+#![tactic(auto)]
+
 ghost use Rattle.std.specs.Prelude.{◌≡◌, ◌++◌, ◌+◌, ◌/◌, ◌≤◌, min, length, take, drop};
 ghost use Rattle.std.proofs.Math.Seq.{paste};
 

@@ -1,4 +1,6 @@
 // The functions for C on blocks, as include/sealed_book.h declares them.
+#![tactic(auto)]
+
 ghost use Rattle.std.specs.Prelude.{◌≡◌};
 ghost use Rattle.cipher.specs.Entry.{enciphered, deciphered, enciphered_blocks, deciphered_blocks};
 ghost use Rattle.suites.specs.Suite.{suite_answer};

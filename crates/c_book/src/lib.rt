@@ -1,1 +1,3 @@
 // No code: demand 3 for the functions that C calls.
+#![tactic(auto)]
+

@@ -1,4 +1,6 @@
 // The functions for C that need no key, as include/sealed_book.h declares them. None tests a seal.
+#![tactic(auto)]
+
 ghost use Rattle.std.specs.Prelude.{◌≡◌};
 ghost use Rattle.returned.specs.Returned.{returned};
 ghost use Rattle.opening_fields.specs.Opening.{opening_number, opening_suite, opening_tests};

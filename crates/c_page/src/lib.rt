@@ -1,4 +1,6 @@
 // The functions for C that compare a typed sentence with segments, as include/sealed_book.h declares them.
+#![tactic(auto)]
+
 ghost use Rattle.std.specs.Prelude.{[], ◌∷◌, ◌≡◌};
 ghost use Rattle.score.specs.Score.{score};
 ghost use Rattle.page.specs.Page.{page_answer, page_told, page_buffer};

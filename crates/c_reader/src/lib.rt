@@ -1,4 +1,6 @@
 // The functions for C that read a book, as include/sealed_book.h declares them.
+#![tactic(auto)]
+
 ghost use Rattle.std.specs.Prelude.{[], ◌∷◌, ◌≡◌};
 ghost use Rattle.checker.specs.Check.{check_answer, check_told};
 ghost use Rattle.walk.specs.Ciphertext.{ciphertext_place};

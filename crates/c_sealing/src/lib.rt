@@ -1,4 +1,6 @@
 // The functions for C that seal and open, as include/sealed_book.h declares them.
+#![tactic(auto)]
+
 ghost use Rattle.std.specs.Prelude.{◌≡◌, [], ◌∷◌};
 ghost use Rattle.sealing.specs.Seal.{seal_answer, seal_buffer, seal_told};
 ghost use Rattle.opening.specs.Open.{open_answer, open_buffer, open_told};

@@ -1,4 +1,6 @@
 // The functions for C that write a book, as include/sealed_book.h declares them.
+#![tactic(auto)]
+
 ghost use Rattle.std.specs.Prelude.{◌≡◌};
 ghost use Rattle.fields.specs.Unit.{unit_of};
 ghost use Rattle.writer_calls.specs.History.{add, close};

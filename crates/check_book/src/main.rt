@@ -1,4 +1,6 @@
 // Checks the book at standard input, behind the 16 bytes of its key, and writes one line: `ok units=1 calls=7`, `refused 8`, or `too long`.
+#![tactic(auto)]
+
 ghost use Rattle.std.specs.Prelude.{◌≡◌, ◌+◌, ◌≤◌, length, take, drop};
 ghost use Rattle.decimal.specs.Decimal.{digits, AtStart};
 ghost use Rattle.checker.specs.Check.{check_answer};

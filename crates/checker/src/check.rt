@@ -10,7 +10,7 @@ use parser::frame::Frame;
 use suites::refusal::{Answer, Refusal};
 
 // The unit count and the call total, or the refusal.
-#[derive(Drop)]
+#[derive(Clone, Copy)]
 pub enum CheckAnswer {
     Accepted(u64, u64),
     Refused(Refusal),

@@ -1,2 +1,4 @@
 // Reading a book: check.
+#![tactic(auto)]
+
 pub mod check;

@@ -9,7 +9,7 @@ use suites::refusal::{Answer, Refusal};
 use suites::suite::Suite;
 
 // A block with the answer; with a refusal it is the block that was given.
-#[derive(Drop)]
+#[derive(Clone, Copy)]
 pub struct Outcome {
     pub answer: Answer,
     pub block: [u8; 16],

@@ -1,6 +1,8 @@
 // The entries of the tables as the ciphers themselves compute them: by the layers that a single block goes through, lent the
 // tables that those are lent. specs/TableLaw says that these are the paper's entries, and the made ones. So it does of those in on_planes, by
 // the boxes on planes, and of those in masked, by products.
+#![tactic(auto)]
+
 pub mod masked;
 pub mod on_planes;
 
@@ -13,7 +15,7 @@ ghost use Rattle.cipher_boxes.specs.Computed.{sbox_in, lbox_in, sbox_entry, lbox
 use printed::Half;
 use rounds::Cipher;
 
-#[derive(Drop)]
+#[derive(Clone, Copy)]
 pub enum Direction {
     Enciphering,
     Deciphering,

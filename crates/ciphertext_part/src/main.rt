@@ -1,5 +1,7 @@
 // Writes the ciphertext parts of units 0 to 3 of the book at standard input, a line each: the part's length, a blank, its bytes. They are
 // written from the buffer that the book was read into.
+#![tactic(auto)]
+
 use libc::STDIN_FILENO;
 
 fn line(part: &[u8]) {

@@ -1,4 +1,6 @@
 // Numbers in decimal.
+#![tactic(auto)]
+
 ghost use Rattle.std.specs.Prelude.{◌≡◌, ◌≤◌, length};
 ghost use Rattle.decimal.specs.Decimal.{last_digit, digits, digits_within, AtStart};
 

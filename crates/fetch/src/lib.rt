@@ -1,2 +1,4 @@
 // Fetching one unit of a book.
+#![tactic(auto)]
+
 pub mod unit;

@@ -16,14 +16,14 @@ use parser::frame::Frame;
 use suites::refusal::{Answer, Refusal};
 
 // The lengths of source and target, or the refusal.
-#[derive(Drop)]
+#[derive(Clone, Copy)]
 pub enum FetchAnswer {
     Fetched(usize, usize),
     Refused(Refusal),
 }
 
 // The same, and where the next unit or the close begins.
-#[derive(Drop)]
+#[derive(Clone, Copy)]
 pub enum PlacedAnswer {
     Fetched(usize, usize, usize),
     Refused(Refusal),

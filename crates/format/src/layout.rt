@@ -11,7 +11,7 @@ use kinds::Kind;
 use suites::suite::Suite;
 
 // The header sealed along with a unit or a close: the first `len` of these bytes, which have room for the longest.
-#[derive(Drop)]
+#[derive(Clone, Copy)]
 pub struct Along {
     pub bytes: [u8; 48],
     pub len: usize,

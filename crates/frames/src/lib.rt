@@ -1,4 +1,6 @@
 // A unit and a close, put where a part of the buffer starts. Each public function serves the writer, which has tested what it asks.
+#![tactic(auto)]
+
 ghost use Rattle.std.specs.Prelude.{true, ◌≡◌, ◌++◌, ◌+◌, ◌≤◌, length, take, drop};
 ghost use Rattle.suites.specs.Suite.{listed};
 ghost use Rattle.fields.specs.Field.{field};

@@ -1,4 +1,6 @@
 // Groups of sixty-four blocks, each block under its own tweak, one way or the other. A function with a precondition serves our own crates.
+#![tactic(auto)]
+
 ghost use Rattle.std.specs.Prelude.{◌≡◌, ◌+◌, ◌*◌, ◌≤◌, length};
 ghost use Rattle.blockwise.specs.Blocks.{each_of};
 ghost use Rattle.state.specs.Block.{rows};

@@ -1,11 +1,13 @@
 // The kinds of book, and what follows from a kind: no number of a kind stands anywhere else in the code.
+#![tactic(auto)]
+
 ghost use Rattle.std.specs.Prelude.{◌≡◌, ◌+◌, ◌/◌, ◌^◌, ◌<◌};
 ghost use Rattle.kinds.specs.Kind.{kind_of, newest, kind_by, book_kind};
 ghost use Rattle.kinds.specs.Lengths.{Small, header_bytes, header_length, close_header_length, codes_at, ciphertext_at};
 ghost use Rattle.kinds.specs.Lengths.{frame_length, unit_length, close_length, unit_calls, close_calls};
 
 // A kind has the name of the tag of its unit headers.
-#[derive(Drop)]
+#[derive(Clone, Copy)]
 pub enum Kind {
     Tag10,
     Tag14,

@@ -1,4 +1,6 @@
 // The limits of known values 9, 10 and 11: what comes out is held to the file `stdout` beside this folder, which tests/expected makes.
+#![tactic(auto)]
+
 ghost use Rattle.std.specs.Prelude.{◌≤◌, length};
 
 use sealing::seal::SealAnswer;

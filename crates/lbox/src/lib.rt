@@ -1,4 +1,6 @@
 // The L-boxes: a row through four byte tables, and what that means, a matrix times the row.
+#![tactic(auto)]
+
 pub mod matrices;
 
 ghost use Rattle.std.specs.Prelude.{◌≡◌, ◌*◌, ◌%◌, ◌<◌};

@@ -1,4 +1,6 @@
 // The limits of header and text, and the refusals that need only lengths.
+#![tactic(auto)]
+
 ghost use Rattle.std.specs.Prelude.{◌≡◌, ◌+◌, ◌-◌, leb};
 ghost use Rattle.limits.specs.Limits.{header_limit, text_limit};
 ghost use Rattle.limits.specs.Tests.{unless, input_tests, seal_tests, open_tests, verify_tests};

@@ -1,4 +1,6 @@
 // The fifteen tables, made from the matrices and bit equations. No table is used.
+#![tactic(auto)]
+
 ghost use Rattle.std.specs.Prelude.{◌≡◌};
 ghost use Rattle.bits.specs.Table.{tab};
 ghost use Rattle.sbox.specs.Sbox;
@@ -9,7 +11,7 @@ ghost use Rattle.made_tables.specs.Makes.{Makes};
 use printed::Half;
 
 // Whose boxes.
-#[derive(Drop)]
+#[derive(Clone, Copy)]
 pub enum Boxes {
     Scream,
     ScreamInverse,

@@ -1,5 +1,7 @@
 // Blocks through a whole cipher, one way or the other, with no load that depends on them, the key or the tweak. A function with a precondition
 // serves our own crates.
+#![tactic(auto)]
+
 ghost use Rattle.std.specs.Prelude.{cond, ◌≡◌, ◌+◌, ◌≤◌, ◌<◌, length};
 ghost use Rattle.blockwise.specs.Blocks.{each_block};
 ghost use Rattle.lbox.specs.Lbox;

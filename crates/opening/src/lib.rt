@@ -1,2 +1,4 @@
 // Opening what was sealed, and demand 2.
+#![tactic(auto)]
+
 pub mod open;

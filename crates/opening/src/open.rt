@@ -8,7 +8,7 @@ use suites::refusal::{Answer, Refusal};
 use suites::suite::Suite;
 
 // The length of the text, or the refusal.
-#[derive(Drop)]
+#[derive(Clone, Copy)]
 pub enum OpenAnswer {
     Opened(usize),
     Refused(Refusal),

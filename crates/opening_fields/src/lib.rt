@@ -1,4 +1,6 @@
 // The opening fields of a book: whether they are there, and what they say.
+#![tactic(auto)]
+
 ghost use Rattle.std.specs.Prelude.{◌≡◌, length, get_or};
 ghost use Rattle.opening_fields.specs.Opening.{has_opening, opening_number, opening_suite, opening_tests, check_tests};
 

@@ -1,4 +1,6 @@
 // The page of a book: how alike a typed sentence is to the source of each unit.
+#![tactic(auto)]
+
 ghost use Rattle.std.specs.Prelude.{◌≡◌, ◌++◌, ◌+◌, ◌*◌, ◌≤◌, length, drop};
 ghost use Rattle.kinds.specs.Kind.{kind_of};
 ghost use Rattle.kinds.specs.Lengths.{header_length};
@@ -13,7 +15,7 @@ use parser::frame::Frame;
 use suites::refusal::Refusal;
 
 // The page's length, or the refusal.
-#[derive(Drop)]
+#[derive(Clone, Copy)]
 pub enum PageAnswer {
     Written(usize),
     Refused(Refusal),

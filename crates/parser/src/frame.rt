@@ -13,7 +13,7 @@ use kinds::Kind;
 use suites::refusal::Refusal;
 
 // A unit whose ciphertext has so many bytes, a close, or the refusal.
-#[derive(Drop)]
+#[derive(Clone, Copy)]
 pub enum Frame {
     Unit(usize),
     Close,
@@ -40,7 +40,7 @@ fn header_number(kind: Kind, s: &[u8]) -> u64
 }
 
 // The codes of the two languages of a unit.
-#[derive(Drop)]
+#[derive(Clone, Copy)]
 pub struct Pair {
     pub from: [u8; 2],
     pub to: [u8; 2],

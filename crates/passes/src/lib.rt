@@ -1,4 +1,6 @@
 // Passes over a ciphertext. Each public function serves our own crates, which have tested what it asks.
+#![tactic(auto)]
+
 ghost use Rattle.std.specs.Prelude.{◌≡◌, ◌+◌, ◌%◌, ◌≤◌, ◌<◌, length};
 ghost use Rattle.calls.specs.Sealing.{opening_tag};
 ghost use Rattle.calls.specs.Tweak.{blocks_of};

@@ -1,4 +1,6 @@
 // Rounds and turns of sixty-four states side by side, one way or the other. A function with a precondition serves our own crates.
+#![tactic(auto)]
+
 ghost use Rattle.std.specs.Prelude.{cond, ◌≤◌, ◌<◌};
 ghost use Rattle.lbox.specs.Lbox;
 ghost use Rattle.sbox.specs.Sbox;

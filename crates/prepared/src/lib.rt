@@ -1,5 +1,7 @@
 // The scores of many sources against one typed sentence, whose trigrams are counted once; for our own crates, which lend the room. A sentence
 // longer than any segment may be is not counted once: there the source's trigrams are counted, in the same room.
+#![tactic(auto)]
+
 ghost use Rattle.std.specs.Prelude.{◌≡◌, ◌++◌, ◌≤◌, length, take, drop, replicate};
 ghost use Rattle.score.specs.Score.{score};
 ghost use Rattle.prepared.specs.Prepared.{Room, Prepared};

@@ -1,4 +1,6 @@
 // Prints the fifteen tables, made from the matrices and bit equations: 240 lines.
+#![tactic(auto)]
+
 use libc::{STDERR_FILENO, STDOUT_FILENO};
 
 fn main() {

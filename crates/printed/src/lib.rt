@@ -1,9 +1,11 @@
 // The fifteen tables as the paper prints them, and what each is made of: specs/Printed, specs/Rule. Here are the halves of a word.
+#![tactic(auto)]
+
 ghost use Rattle.std.specs.Prelude.{◌≡◌};
 ghost use Rattle.printed.specs.Rule;
 
 // A half of a word of 16 bits.
-#[derive(Drop)]
+#[derive(Clone, Copy)]
 pub enum Half {
     Low,
     High,

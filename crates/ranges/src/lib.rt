@@ -1,6 +1,8 @@
 // Trigrams shared by segments of any length, in ranges: all trigrams that are the same number when divided by 4,096 are counted at once, each
 // at its own place of a table, then those of the next range. It needs no room for the segments' trigrams. It takes time as the lengths together
 // times the ranges in which the first segment has trigrams: some hundred in ordinary text, at most 4,096.
+#![tactic(auto)]
+
 ghost use Rattle.std.specs.Prelude.{◌≡◌, [], length};
 ghost use Rattle.trigrams.specs.Trigrams.{trigrams, shared};
 ghost use Rattle.trigrams.specs.Taken.{taken};

@@ -1,4 +1,6 @@
 // What the programs vectors, known and ciphertext_part write to standard output.
+#![tactic(auto)]
+
 use libc::STDOUT_FILENO;
 use suites::refusal::Refusal;
 

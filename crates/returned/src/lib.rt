@@ -1,4 +1,6 @@
 // What the functions for C return, as a number.
+#![tactic(auto)]
+
 ghost use Rattle.std.specs.Prelude.{◌≡◌};
 ghost use Rattle.returned.specs.Returned.{returned};
 

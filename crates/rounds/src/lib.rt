@@ -1,5 +1,7 @@
 // Both ciphers by definition: tweakeys, rounds and steps. The code of these stands in the crates tweakey, steps and runs.
-#[derive(Drop)]
+#![tactic(auto)]
+
+#[derive(Clone, Copy)]
 pub enum Cipher {
     Scream,
     IScream,

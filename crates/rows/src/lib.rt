@@ -1,4 +1,6 @@
 // A row of a page. A function with a precondition serves our own crates, which see to it.
+#![tactic(auto)]
+
 ghost use Rattle.std.specs.Prelude.{◌≡◌, ◌≤◌, length, replicate};
 ghost use Rattle.decimal.specs.Decimal.{digits};
 ghost use Rattle.rows.specs.Row.{right_aligned, row_of};

@@ -1,4 +1,6 @@
 // Runs of steps: what enciphering, deciphering and a single step have in common.
+#![tactic(auto)]
+
 ghost use Rattle.std.specs.Prelude.{cond, ◌≡◌, ◌+◌, ◌≤◌, leb, length};
 ghost use Rattle.blockwise.specs.Blocks.{each_block};
 ghost use Rattle.rounds.specs.Cipher.{parts};

@@ -1,4 +1,6 @@
 // The score of two segments.
+#![tactic(auto)]
+
 ghost use Rattle.std.specs.Prelude.{◌≡◌, ◌+◌, ◌-◌, ◌*◌, ◌/◌, ◌≤◌, ◌<◌, length};
 ghost use Rattle.trigrams.specs.Trigrams.{trigrams, shared};
 ghost use Rattle.score.specs.Score.{equal_segments, score};

@@ -8,7 +8,7 @@ use suites::refusal::{Answer, Refusal};
 use suites::suite::Suite;
 
 // The length of the sealed bytes and the number of cipher calls, or the refusal.
-#[derive(Drop)]
+#[derive(Clone, Copy)]
 pub enum SealAnswer {
     Sealed(usize, usize),
     Refused(Refusal),

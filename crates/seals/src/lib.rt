@@ -1,4 +1,6 @@
 // The seal of one frame of a book: of a unit, and of the close. Functions with a precondition serve our own crates, which have read the frame.
+#![tactic(auto)]
+
 ghost use Rattle.std.specs.Prelude.{◌++◌, ◌≡◌, ◌+◌, ◌-◌, ◌*◌, ◌≤◌, length, take, drop};
 ghost use Rattle.fields.specs.Unit.{text_in_range};
 ghost use Rattle.format.specs.Sealings.{nonce_of};
@@ -16,7 +18,7 @@ use verifying::verify::VerifyAnswer;
 
 // What a frame's seal is made of: the nonce, the header sealed along, which is the first `len` bytes of `along`, where the ciphertext starts and
 // ends in the frame, and the tag.
-#[derive(Drop)]
+#[derive(Clone, Copy)]
 pub struct Parts {
     pub nonce: [u8; 12],
     pub along: [u8; 48],

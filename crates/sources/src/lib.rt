@@ -1,4 +1,6 @@
 // The source of a unit that was checked, deciphered without its seal; for our own crates, which have checked the book and lend the room.
+#![tactic(auto)]
+
 ghost use Rattle.std.specs.Prelude.{◌≡◌, ◌+◌, ◌≤◌, length};
 ghost use Rattle.fields.specs.Unit.{source_length};
 ghost use Rattle.kinds.specs.Kind.{kind_of};

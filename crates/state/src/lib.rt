@@ -1,10 +1,12 @@
 // The state: eight rows of 16 bits, held in two words of four rows each.
+#![tactic(auto)]
+
 ghost use Rattle.std.specs.Prelude.{◌≡◌, ◌+◌, ◌*◌, ◌%◌};
 ghost use Rattle.state.specs.Block.{rows, bytes};
 ghost use Rattle.state.specs.Rows.{add_rows};
 ghost use Rattle.state.specs.State.{rows_of};
 
-#[derive(Drop)]
+#[derive(Clone, Copy)]
 pub struct State {
     pub low: u64,
     pub high: u64,

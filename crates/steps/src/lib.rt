@@ -1,5 +1,7 @@
 // Rounds and steps on the eight rows. A function that stands at one place of a loop is compiled into it, so the ways forth
 // and back have each their own. A function with a precondition serves our own crates, which lend it the right tables.
+#![tactic(auto)]
+
 ghost use Rattle.std.specs.Prelude.{◌≡◌, ◌+◌, ◌*◌, get_or};
 ghost use Rattle.bits.specs.Table.{tab};
 ghost use Rattle.lbox.specs.Lbox;

@@ -1,3 +1,5 @@
 // Suites, and the refusals of the whole library.
+#![tactic(auto)]
+
 pub mod refusal;
 pub mod suite;

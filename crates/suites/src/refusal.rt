@@ -2,7 +2,7 @@
 ghost use Rattle.std.specs.Prelude.{◌≡◌};
 ghost use Rattle.suites.specs.Refusal.{number};
 
-#[derive(Drop)]
+#[derive(Clone, Copy)]
 pub enum Refusal {
     SuiteNotListed,
     KeyLength,
@@ -49,7 +49,7 @@ impl Refusal {
 }
 
 // The answer of a call that has nothing to hand back but what it wrote.
-#[derive(Drop)]
+#[derive(Clone, Copy)]
 pub enum Answer {
     Done,
     Refused(Refusal),

@@ -6,13 +6,13 @@ use crate::refusal::Refusal;
 use rounds::Cipher;
 
 // Any two bytes; `make` makes listed ones only.
-#[derive(Drop)]
+#[derive(Clone, Copy)]
 pub struct Suite {
     pub cipher: u8,
     pub steps: u8,
 }
 
-#[derive(Drop)]
+#[derive(Clone, Copy)]
 pub enum Made {
     Listed(Suite),
     Refused(Refusal),

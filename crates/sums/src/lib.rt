@@ -1,4 +1,6 @@
 // Bytes filled up and added. A function with a precondition serves our own crates, which have tested what it asks.
+#![tactic(auto)]
+
 ghost use Rattle.std.specs.Prelude.{◌≡◌, ◌/◌, ◌≤◌, length};
 ghost use Rattle.bits.specs.Bytes.{added};
 ghost use Rattle.calls.specs.Calls.{filled};

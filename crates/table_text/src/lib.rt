@@ -1,4 +1,6 @@
 // A table as text: 16 lines of 16 entries in hexadecimal.
+#![tactic(auto)]
+
 ghost use Rattle.std.specs.Prelude.{◌≡◌, ◌/◌, ◌%◌};
 ghost use Rattle.table_text.specs.Text.{hex_digit, table_text};
 ghost use Rattle.table_text.specs.Code.{behind};

@@ -1,6 +1,8 @@
 // Trigrams counted, for our own crates, which lend the room: `head` has a chain for each hash, `next` the chains, `counts` how often each
 // node's trigram is counted, `keys` the nodes' trigrams. keys[0] is written before a search, so that it ends there; counts[0] is always 0, so
 // that a trigram that is not there is counted 0 times.
+#![tactic(auto)]
+
 ghost use Rattle.std.specs.Prelude.{◌≡◌, ◌+◌, ◌^◌, ◌<◌, min, length, get_or};
 ghost use Rattle.tally.specs.Tally.{chain, Down};
 ghost use Rattle.tally.specs.Code.{Empty, Counted, Filled, Compared, Number, Found, Begun, Left, Took};

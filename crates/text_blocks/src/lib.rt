@@ -1,4 +1,6 @@
 // Text blocks. A function with a precondition serves our own crates, which have tested what it asks.
+#![tactic(auto)]
+
 pub mod marks;
 
 ghost use Rattle.std.specs.Prelude.{true, ◌≡◌, ◌+◌, ◌*◌, ◌/◌, ◌^◌, ◌<◌, ◌≤◌, min, length};

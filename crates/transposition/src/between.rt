@@ -3,7 +3,7 @@ ghost use Rattle.std.specs.Prelude.{◌≡◌, ◌+◌, ◌<◌, length};
 ghost use Rattle.transposition.specs.Levels.{Exchanged, exchanged_rows, level};
 
 // Two rows of words.
-#[derive(Drop)]
+#[derive(Clone, Copy)]
 pub struct Exchange {
     pub first: [u64; 16],
     pub second: [u64; 16],

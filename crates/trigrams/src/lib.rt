@@ -1,4 +1,6 @@
 // Trigrams, read from a segment.
+#![tactic(auto)]
+
 ghost use Rattle.std.specs.Prelude.{◌≡◌, ◌+◌, ◌-◌, ◌<◌, length};
 ghost use Rattle.trigrams.specs.Trigrams.{trigram};
 ghost use Rattle.trigrams.specs.Read.{Read};

@@ -1,5 +1,7 @@
 // Both ways through a cipher as one run of turns: the numbers of its rounds and tweakeys. A function with a precondition serves our own crates,
 // which keep within the fourteen steps that a suite has.
+#![tactic(auto)]
+
 ghost use Rattle.std.specs.Prelude.{◌≡◌, ◌≤◌, ◌<◌};
 ghost use Rattle.rounds.specs.Cipher.{constant};
 ghost use Rattle.turns.specs.Turns.{step_at, key_before, key_behind};

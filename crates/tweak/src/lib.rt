@@ -1,6 +1,8 @@
 // The tweaks of a sealing's cipher calls. specs/TweakLaw says that within the limits that of each number is the scope's, byte for byte, and that
 // a special one is as the scope says of its byte. Each public function serves the crates above, which have tested the nonce's length and the
 // limits.
+#![tactic(auto)]
+
 ghost use Rattle.std.specs.Prelude.{◌≡◌, ◌++◌, ◌+◌, ◌-◌, ◌*◌, ◌%◌, ◌^◌, ◌≤◌, length, take, drop, replicate};
 ghost use Rattle.bits.specs.Bytes.{big_endian};
 ghost use Rattle.calls.specs.Tweak.{tweak, text_tweak, header_tweak, special_tweak};

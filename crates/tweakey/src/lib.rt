@@ -1,4 +1,6 @@
 // The tweakeys. There are three for a key and a tweak under Scream, two under iScream.
+#![tactic(auto)]
+
 ghost use Rattle.std.specs.Prelude.{◌≡◌};
 ghost use Rattle.tweakey.specs.Schedule.{Scheduled, held, state_at};
 ghost use Rattle.state.specs.State.{rows_of};
@@ -8,7 +10,7 @@ use rounds::Cipher;
 use state::State;
 
 // The tweakeys of the steps σ, by σ mod 3 or σ mod 2.
-#[derive(Drop)]
+#[derive(Clone, Copy)]
 pub struct Schedule {
     pub first: State,
     pub second: State,

@@ -1,5 +1,7 @@
 // Runs the cases that another implementation made and writes what comes out. The file `stdout` beside this folder is made from the
 // same cases by tests/expected.
+#![tactic(auto)]
+
 ghost use Rattle.std.specs.Prelude.{◌≡◌, ◌<◌, ◌≤◌, length};
 ghost use Rattle.io.specs.Counts.{IsPrefixLen};
 
@@ -12,7 +14,7 @@ use suites::suite::Suite;
 use verifying::verify::VerifyAnswer;
 
 // What the cases of a file are of.
-#[derive(Drop)]
+#[derive(Clone, Copy)]
 enum Kind {
     Cipher,
     Seal,

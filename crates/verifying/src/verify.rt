@@ -8,7 +8,7 @@ use suites::refusal::{Answer, Refusal};
 use suites::suite::Suite;
 
 // The first two bytes of the text, 0 for one that is not there; or the refusal.
-#[derive(Drop)]
+#[derive(Clone, Copy)]
 pub enum VerifyAnswer {
     Agrees(u8, u8),
     Refused(Refusal),

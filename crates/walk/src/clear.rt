@@ -10,14 +10,14 @@ use parser::frame::Frame;
 use suites::refusal::{Answer, Refusal};
 
 // A language code: its letters, then zeros, and how many letters it has.
-#[derive(Drop)]
+#[derive(Clone, Copy)]
 pub struct Code {
     pub bytes: [u8; 4],
     pub len: usize,
 }
 
 // A unit's place, its language codes, where its ciphertext stands, and where the next unit or the close begins; all 0 with a refusal.
-#[derive(Drop)]
+#[derive(Clone, Copy)]
 pub struct Clear {
     pub answer: Answer,
     pub at: usize,

@@ -1,4 +1,6 @@
 // Going over a book without its seals: the walk to unit k, what a unit's fields say in the clear, and the ciphertext of a unit.
+#![tactic(auto)]
+
 pub mod ciphertext;
 pub mod clear;
 
@@ -9,7 +11,7 @@ ghost use Rattle.walk.specs.Walk.{walk_to};
 use kinds::Kind;
 
 // A place behind a book's opening fields, and how many units stand before it.
-#[derive(Drop)]
+#[derive(Clone, Copy)]
 pub struct Place {
     pub number: u64,
     pub at: usize,

@@ -1,4 +1,6 @@
 // The writer of a book: start, add and close.
+#![tactic(auto)]
+
 ghost use Rattle.fields.specs.Kind.{writer_kind};
 ghost use Rattle.fields.specs.Unit.{unit_of};
 ghost use Rattle.writer_calls.specs.History.{add, close, state, Answers, Starts};
@@ -10,7 +12,7 @@ use writer_state::Writer;
 
 // A writer with the answer to its last call; with a refusal it is the writer that was given, or a closed writer of zeros at a start. The
 // next call goes by the writer alone.
-#[derive(Drop)]
+#[derive(Clone, Copy)]
 pub struct Written {
     pub answer: Answer,
     pub writer: Writer,

@@ -1,4 +1,6 @@
 // The writer as 64 bytes.
+#![tactic(auto)]
+
 ghost use Rattle.std.specs.Prelude.{cond, ◌≡◌};
 ghost use Rattle.writer_bytes.specs.WriterBytes.{writer_of, writer_bytes};
 

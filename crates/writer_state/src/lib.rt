@@ -1,4 +1,6 @@
 // What a writer holds, and the tests of start, add and close.
+#![tactic(auto)]
+
 ghost use Rattle.std.specs.Prelude.{◌≡◌};
 ghost use Rattle.writer_state.specs.Writer.{no_writer};
 
@@ -7,7 +9,7 @@ use suites::suite::Suite;
 pub mod tests;
 
 // What a book's writer holds between calls. Any value of it is answered.
-#[derive(Drop)]
+#[derive(Clone, Copy)]
 pub struct Writer {
     pub suite: Suite,
     pub key: [u8; 16],

@@ -2,13 +2,10 @@
 use mathlib.Core.Path.{refl}
 use lib.Bits.{bit_xor}
 use Rattle.state.proofs.Words.{add_is}
-use Rattle.state.proofs.add.Statement.{statement}
-use Rattle.state.proofs.add.Tie as tie
+use Rattle.state.proofs.add.Goals as goal
 
-returns : tie.Need-returns
+pub returns : goal.returns
 returns c =
-    let h = c.before.before.before.before.args in
+    let h = c.args in
     add_is h.a h.b (record { low = bit_xor h.a.low h.b.low; high = bit_xor h.a.high h.b.high }) refl refl
 
-pub add_spec : {M : Type 1} → statement M
-add_spec = tie.close (tie.spec returns)
