@@ -8,5 +8,5 @@ use Rattle.state.proofs.bytes_of.Goals as goal
 pub returns : goal.returns
 unfolding bytes
 returns c =
-    sym (bytes_of_rows c.args.w c.type_inv.0.1.0.1)
+    sym (bytes_of_rows c.args.w c.well_formed.0.1.0.1)
 

@@ -20,5 +20,5 @@ returns c =
     ∷ c.word-7.ensures i
     ∷ c.word-8.ensures i
     ∷ [])
-    ∙ sym (rows_of_block h.args.b h.type_inv.0.1.0.1)
+    ∙ sym (rows_of_block h.args.b h.well_formed.0.1.0.1)
 

@@ -1,0 +1,15 @@
+-- Row i is bit i of the byte.
+use mathlib.Core.List.{◌∷◌}
+use mathlib.Core.Path.{sym, ap}
+use Prim.Native.Nat.{ℕ, suc}
+use Rattle.bits.specs.Bit.{bit}
+use Rattle.bits.specs.Table.{tab}
+use Rattle.bits.proofs.Bits.{bit_zero}
+use Rattle.sbox.specs.Sbox
+use Rattle.sbox.proofs.column.alone.Goals as goal
+
+pub returns : goal.returns
+unfolding Sbox.alone bit
+returns c =
+    ap (λ (n : ℕ). n ∷ tab 7 (λ i. bit c.args.b (suc i))) (sym (bit_zero c.args.b))
+
