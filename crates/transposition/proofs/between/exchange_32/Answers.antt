@@ -2,7 +2,6 @@
 use Prim.Native.Nat.{◌+◌}
 use lib.ListN.{set}
 use Rattle.transposition.specs.Levels.{exchanged_rows}
-use borrow.Author.Rules.{rules}
 use Rattle.transposition.proofs.between.exchange_32.Goals as goal
 
 pub returns : goal.returns
@@ -10,5 +9,4 @@ unfolding exchanged_rows
 returns c =
     let h = c in
     let a = h.args in
-    λ i. set (set a.x.now a.i (h.pairs_32-p.ensures.first i)) (a.i + 2) (h.pairs_32-p.ensures.second-1 i)
-
+    λ i. set (set a.x.now a.i (h.pairs_32-p.ensures.first i)) (a.i + 2) (h.pairs_32-p.ensures.second i)

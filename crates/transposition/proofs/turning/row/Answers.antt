@@ -1,7 +1,6 @@
 -- The four, one behind the other.
 use mathlib.Core.Path.{ap, ◌∙◌}
 use Rattle.transposition.specs.Levels.{level_in, turned_row}
-use borrow.Author.Rules.{rules}
 use Rattle.transposition.proofs.turning.row.Goals as goal
 
 pub returns : goal.returns
@@ -12,4 +11,3 @@ returns c =
     (c.level_4.ensures
     ∙ ap (level_in 4 0x0F0F0F0F0F0F0F0F)
     (c.level_2.ensures ∙ ap (level_in 2 0x3333333333333333) c.level_1.ensures))
-

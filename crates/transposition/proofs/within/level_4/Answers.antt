@@ -1,11 +1,9 @@
 -- Each of the sixteen.
 use mathlib.Core.Path.{refl}
 use Rattle.transposition.specs.Levels.{level_in}
-use borrow.Author.Rules.{rules}
 use Rattle.transposition.proofs.within.level_4.Goals as goal
 
 pub returns : goal.returns
 unfolding level_in
 returns c =
     refl
-

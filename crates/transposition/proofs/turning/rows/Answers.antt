@@ -1,0 +1,13 @@
+-- The first i rows are turned.
+use mathlib.Core.List.{[]}
+use mathlib.Core.Path.{◌≡◌, ◌∙◌}
+use native.Mathlib.Omega.{arith}
+use Rattle.bits.proofs.Elements.{replaced_all}
+use Rattle.transposition.proofs.Rows.{within_rows}
+use Rattle.transposition.proofs.turning.rows.Goals as goal
+
+pub returns : goal.returns
+returns c =
+    let h = c in
+    let all : h.loop-i.i ≡ 8 = omega arith in
+    replaced_all [] (rw all at h.loop-i.invariant.1) ∙ within_rows h.args.x.now
