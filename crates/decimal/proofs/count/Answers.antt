@@ -1,9 +1,6 @@
 -- A turn takes a digit from what is left of the number and counts it; one digit is left in the end.
-use mathlib.Core.Path.{◌≡◌}
-use Prim.Native.Nat.{◌+◌, ◌/◌}
+use Prim.Native.Nat.{◌/◌}
 use native.Mathlib.Omega.{arith}
-use lib.ListN.{length}
-use Rattle.decimal.specs.Decimal.{digits}
 use Rattle.decimal.proofs.Digits.{length_one, length_more, digits_some, digits_u64}
 use Rattle.decimal.proofs.count.Goals as goal
 
@@ -20,4 +17,3 @@ loop-rest-preserved c =
 pub returns : goal.returns
 returns c =
     omega (arith, length_one c.loop-rest.rest (omega arith))
-

@@ -1,10 +1,8 @@
 -- A turn takes a digit from what is left of the number and counts it; one digit is left in the end.
 use mathlib.Core.Path.{◌≡◌}
-use Prim.Native.Nat.{◌+◌, ◌/◌}
-use native.Mathlib.Omega.{arith}
+use Prim.Native.Nat.{◌+◌}
 use lib.ListN.{length}
 use Rattle.decimal.specs.Decimal.{digits}
-use Rattle.decimal.proofs.Digits.{length_one, length_more, digits_some, digits_u64}
 use Rattle.decimal.proofs.count.Given as goal
 
 abbrev pub invariant-loop-rest : goal.invariant-loop-rest

@@ -1,6 +1,5 @@
 -- By whether the digits have room.
 use native.Mathlib.Omega.{arith}
-use borrow.Author.Rules.{rules}
 use borrow.Author.Tests.{lt-leb}
 use lib.ListN.{length}
 use Rattle.decimal.specs.Decimal.{digits, digits_within}
@@ -21,4 +20,3 @@ returns c =
     let a = h.args in
     rw (digits_within_all (length a.out.now) a.n (omega (arith, h.count.ensures, h.if-out-count.false)))
     c.put_all.ensures
-
