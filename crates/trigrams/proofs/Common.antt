@@ -98,7 +98,7 @@ common_count v x (u ∷ y) = at (ℕ_discrete (count u x) 0) (ℕ_discrete v u) 
         → count v (common (less u x) y) ≡ min (count v (less u x)) (count v y) → count v (common x (u ∷ y)) ≡ min (count v x) (count v (u ∷ y))
     at (yes z) (yes e) r q = rw (e, z, eq-eqb u u refl) (omega (arith, rw (e, z) at r))
     at (yes z) (no d) r q = rw (z, ne_eqb u v (λ e. d (sym e))) r
-    at (no z) (yes e) r q = rw (e, ne_eqb (count u x) 0 z, eq-eqb u u refl) (omega (arith, rw e at q, count_less_same u x))
+    at (no z) (yes e) r q = rw (e, ne_eqb (count u x) 0 z, eq-eqb u u refl, rw e at q, count_less_same u x) (omega (arith, ap (λ w. count w y) e))
     at (no z) (no d) r q = rw (ne_eqb (count u x) 0 z, ne_eqb u v (λ e. d (sym e))) (q ∙ ap (λ n. min n (count v y)) (count_less_other u x v d))
 
 -- how many are shared with a list of one more, on the right
@@ -131,7 +131,7 @@ shared_cons u x (v ∷ y) = at (ℕ_discrete u v) (shared_cons u x y) (shared_co
     at : Dec (u ≡ v) → shared (u ∷ x) y ≡ cond (eqb (count u y) 0) (shared x y) (suc (shared x (less u y)))
         → shared (u ∷ less v x) y ≡ cond (eqb (count u y) 0) (shared (less v x) y) (suc (shared (less v x) (less u y)))
         → shared (u ∷ x) (v ∷ y) ≡ cond (eqb (count u (v ∷ y)) 0) (shared x (v ∷ y)) (suc (shared x (less u (v ∷ y))))
-    at (yes e) r q = rw (shared_step, e, eq-eqb v v refl, eqb-suc-zero (count v x), eqb-suc-zero (count v y))
+    at (yes e) r q = rw (shared_step, e, eq-eqb v v refl, eqb-suc-zero (count v x), eqb-suc-zero (count u y))
     at (no d) r q =
         rw (shared_step (u ∷ x) v y, ne_eqb u v d, ne_eqb v u (λ e. d (sym e)), r, q, shared_step x v y, shared_step x v (less u y))
         (swap (eqb (count v x) 0) (eqb (count u y) 0) (shared x y) (shared x (less u y)) (shared (less v x) y) (shared (less v x) (less u y)))

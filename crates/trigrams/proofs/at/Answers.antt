@@ -2,7 +2,6 @@
 use mathlib.Core.Path.{refl}
 use Prim.Native.Nat.{◌+◌}
 use native.Mathlib.Omega.{arith}
-use borrow.Author.Rules.{rules}
 use Rattle.trigrams.specs.Trigrams.{trigram}
 use Rattle.trigrams.proofs.at.Goals as goal
 
@@ -10,6 +9,5 @@ pub returns : goal.returns
 unfolding trigram
 returns c =
     let a = c.args in
-    let b = c.shared_slice_known-3-1.given in
+    let b = c.type_inv.s in
     record { is = refl; small = omega (arith, b a.i, b (a.i + 1), b (a.i + 2)) }
-
