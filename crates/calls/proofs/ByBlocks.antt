@@ -12,7 +12,7 @@ use Rattle.bits.specs.Table.{tab}
 use Rattle.bits.proofs.Added.{length_added, added_comm, added_assoc, added_zeros}
 use Rattle.blockwise.specs.Blocks.{block}
 use Rattle.blockwise.proofs.Each.{Blockwise, block_long, strung_ext}
-use Rattle.calls.specs.Tweak.{tweak, text_tweak, header_tweak, special_tweak, blocks_of, inner, last_text_mark, last_header_mark, tag_mark}
+use Rattle.calls.specs.Tweak.{text_tweak, header_tweak, special_tweak, blocks_of, inner, last_text_mark, last_header_mark, tag_mark}
 use Rattle.calls.specs.Calls.{CipherCall, filled, length_block, sum_of, checksum, header_call, text_call, tag_call, block_calls, calls}
 use Rattle.calls.specs.Sealing.{
   Outcome,
