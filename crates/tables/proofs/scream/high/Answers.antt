@@ -1,6 +1,5 @@
 -- The two tables are the paper's, and those joined are the product.
 use mathlib.Core.Path.{refl, ◌∙◌}
-use borrow.Author.Rules.{rules}
 use lib.Dec.{lit<}
 use Rattle.lbox.specs.Lbox
 use Rattle.lbox.specs.Tables.{highs}
@@ -9,12 +8,9 @@ use Rattle.printed.specs.Printed.{tables, table}
 use Rattle.printed.specs.Rule.{rules, rule}
 use Rattle.printed.specs.declared.Half.TheVariants.{High}
 use Rattle.printed.proofs.Joined.{halves_joined}
-use Rattle.tables.proofs.scream.high.Statement.{statement}
-use Rattle.tables.proofs.scream.high.Tie as tie
+use Rattle.tables.proofs.scream.high.Goals as goal
 
-returns : tie.Need-returns
+pub returns : goal.returns
 unfolding tables table Lboxes.table10 Lboxes.table11 rules rule highs Lbox.scream
-returns c = c.join.ensures ∙ halves_joined Lbox.scream High 2 3 refl (lit< tt) (lit< tt) refl refl
-
-pub high-spec : {M : Type 1} → statement M
-high-spec = tie.close (tie.spec (λ c κs. search rules) returns)
+returns c =
+    c.join.ensures ∙ halves_joined Lbox.scream High 2 3 refl (lit< tt) (lit< tt) refl refl

@@ -1,6 +1,5 @@
 -- The two tables are the paper's, and those joined are the product.
 use mathlib.Core.Path.{refl, ◌∙◌}
-use borrow.Author.Rules.{rules}
 use lib.Dec.{lit<}
 use Rattle.lbox.specs.Lbox
 use Rattle.lbox.specs.Tables.{lows}
@@ -9,12 +8,9 @@ use Rattle.printed.specs.Printed.{tables, table}
 use Rattle.printed.specs.Rule.{rules, rule}
 use Rattle.printed.specs.declared.Half.TheVariants.{Low}
 use Rattle.printed.proofs.Joined.{halves_joined}
-use Rattle.tables.proofs.iscream.low.Statement.{statement}
-use Rattle.tables.proofs.iscream.low.Tie as tie
+use Rattle.tables.proofs.iscream.low.Goals as goal
 
-returns : tie.Need-returns
+pub returns : goal.returns
 unfolding tables table Lboxes.table17 Lboxes.table18 rules rule lows Lbox.iscream
-returns c = c.join.ensures ∙ halves_joined Lbox.iscream Low 8 9 refl (lit< tt) (lit< tt) refl refl
-
-pub low-spec : {M : Type 1} → statement M
-low-spec = tie.close (tie.spec (λ c κs. search rules) returns)
+returns c =
+    c.join.ensures ∙ halves_joined Lbox.iscream Low 8 9 refl (lit< tt) (lit< tt) refl refl

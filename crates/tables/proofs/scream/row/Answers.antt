@@ -1,0 +1,9 @@
+-- A row through the tables is the matrix times the row.
+use Rattle.lbox.specs.Lbox
+use Rattle.lbox.proofs.Matrix.{by_bytes}
+use Rattle.tables.proofs.scream.row.Goals as goal
+
+pub returns : goal.returns
+returns c =
+    let h = c in
+    cc (by_bytes Lbox.scream h.args.x h.ranges.x.fits)
