@@ -3,29 +3,17 @@ use mathlib.Core.Path.{◌≡◌, sym, ap, ◌∙◌}
 use mathlib.Core.List.{List, [], ◌++◌, append-nil}
 use Prim.Native.Nat.{ℕ, ◌+◌, ◌-◌}
 use native.Mathlib.Omega.{arith}
-use borrow.Author.Rules.{rules}
 use lib.ListN.{length, take, drop, replicate, length-append, length-take, length-drop, length-replicate, drop_of_length-le}
 use lib.Seq.{take_at, drop_at, length-take-le}
 use Rattle.decimal.specs.Decimal.{digits, digits_within}
 use Rattle.decimal.proofs.Digits.{digits_within_all}
 use Rattle.rows.specs.Row.{right_aligned}
-use Rattle.rows.proofs.column.Statement.{statement}
-use Rattle.rows.proofs.column.Tie as tie
+use Rattle.rows.proofs.column.Goals as goal
 
--- how many blanks there are
-blanks-long : (c : tie.After-count) → let w = c.before.before.args.out.now in
-    length w - c.count.result ≡ length (take (length w - c.count.result) w)
-blanks-long c = let w = c.before.before.args.out.now in sym (length-take-le (length w - c.count.result) w (omega arith))
-
-slice-aggregate-blanks : tie.Need-slice-aggregate-blanks
-slice-aggregate-blanks c = blanks-long c.before
-
--- digits behind blanks b fill what has room for both
 digits_last : (at n : ℕ) (b w d p : List ℕ) → length b ≡ at → at + length d ≡ length w
     → let x = b ++ drop at w in
     p ≡ d ++ drop (length d) (take (length x - at) (drop at x)) → take at x ++ (p ++ drop (length x - at) (drop at x)) ≡ b ++ d
-digits_last at n b w d p e f is =
-    let x = b ++ drop at w in
+digits_last at n b w d p e f is = let x = b ++ drop at w in
     let behind : drop at x ≡ drop at w = drop_at b (drop at w) at e in
     let long : length x ≡ length w = length-append b (drop at w) ∙ omega (arith, length-drop at w) in
     let none : drop (length x - at) (drop at x) ≡ [] =
@@ -36,42 +24,27 @@ digits_last at n b w d p e f is =
     ∙ ap (λ (l : List ℕ). b ++ l) (append-nil (d ++ drop (length d) (take (length x - at) (drop at x)))
     ∙ ap (λ (l : List ℕ). d ++ l) part ∙ append-nil d)
 
-returns : tie.Need-returns
+pub returns : goal.returns
 unfolding right_aligned
 returns c =
-    let u = c.before.before in
-    let v = u.before.before.before.before in
-    let h = v.before.before in
-    let a = h.before.before.args in
+    let blanks-long : let w = c.args.out.now in length w - c.count.result ≡ length (take (length w - c.count.result) w) = let w = c.args.out.now in sym (length-take-le (length w - c.count.result) w (omega arith)) in
+    let u = c in
+    let v = u in
+    let h = v in
+    let a = h.args in
     let w = a.out.now in
     let at = length w - h.count.result in
-    let b = v.blanks.new.0 in
+    let b = v.blanks.new.out in
     let x = b ++ drop at w in
     let d = digits a.n in
     let some : at ≡ length w - length d = ap (λ (k : ℕ). length w - k) h.count.ensures in
-    let b-is : b ≡ replicate at 0x20 = v.blanks.ensures ∙ ap (λ (k : ℕ). replicate k 0x20) (sym (blanks-long h)) in
+    let b-is : b ≡ replicate at 0x20 = v.blanks.ensures ∙ ap (λ (k : ℕ). replicate k 0x20) (sym (blanks-long)) in
     let b-long : length b ≡ at = ap length b-is ∙ length-replicate {A = ℕ} at 0x20 in
-    let fit : at + length d ≡ length w = omega (arith, h.count.ensures, h.before.before.requires) in
+    let fit : at + length d ≡ length w = omega (arith, h.count.ensures, h.requires) in
     let part = take (length x - at) (drop at x) in
     let x-long : length x ≡ length w = length-append b (drop at w) ∙ omega (arith, length-drop at w) in
     let part-long : length part ≡ length w - at =
     length-take-le (length x - at) (drop at x) (rw length-drop (omega arith)) ∙ ap (λ (k : ℕ). k - at) x-long in
     let all : digits_within (length part) a.n ≡ d = digits_within_all (length part) a.n (omega (arith, part-long)) in
-    digits_last at 0 b w d u.put.new.1.0 b-long fit (u.put.ensures.bytes ∙ ap (λ (s : List ℕ). s ++ drop (length s) part) all)
+    digits_last at 0 b w d u.put-k.new.out b-long fit (u.put-k.ensures.bytes ∙ ap (λ (s : List ℕ). s ++ drop (length s) part) all)
     ∙ (λ i. (b-is ∙ ap (λ (k : ℕ). replicate k 0x20) some) i ++ d)
-
-pub column-spec : {M : Type 1} → statement M
-column-spec =
-    tie.close
-    (tie.spec
-    (λ c κs. search rules)
-    (λ c. search rules)
-    (λ c. search rules)
-    slice-aggregate-blanks
-    (λ c κs. search rules)
-    (λ c. search rules)
-    (λ c. search rules)
-    (λ c. search rules)
-    (λ c κs. search rules)
-    (λ c. search rules)
-    returns)
