@@ -12,31 +12,22 @@ use Rattle.planes.proofs.loading.load.Goals as goal
 
 pub returns : goal.returns
 returns c =
-    let w8 = c in
-    let w7 = w8 in
-    let w6 = w7 in
-    let w5 = w6 in
-    let w4 = w5 in
-    let w3 = w4 in
-    let w2 = w3 in
-    let w1 = w2 in
-    let e = w1 in
-    let s = e.args.s.now in
-    let at = e.args.at in
+    let s = c.args.s.now in
+    let at = c.args.at in
     let x : List (List ℕ) = _ in
-    rw (c.turn.ensures ∙ ap turned (eight_stores e.args.x.now e.requires.1 _ _ _ _ _ _ _ _))
+    rw (c.turn.ensures ∙ ap turned (eight_stores c.args.x.now c.requires.1 _ _ _ _ _ _ _ _))
     (loaded s at x
     (each_at 8 (λ i. Fours s (place_of at i) 16 (get_or x i [])) (
-      rw (add-zero at) w1.words.ensures,
+      rw (add-zero at) c.words.ensures,
       (
-        w2.words-2.ensures,
+        c.words-2.ensures,
         (
-          w3.words-3.ensures,
+          c.words-3.ensures,
           (
-            w4.words-4.ensures,
-            (w5.words-5.ensures, (w6.words-6.ensures, (w7.words-7.ensures, (w8.words-8.ensures, tt)))),
+            c.words-4.ensures,
+            (c.words-5.ensures, (c.words-6.ensures, (c.words-7.ensures, (c.words-8.ensures, tt)))),
           ),
         ),
       ),
     ))
-    e.requires.0)
+    c.requires.0)

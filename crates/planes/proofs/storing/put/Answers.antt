@@ -14,19 +14,15 @@ blocks y b = bytes (rows_in y b)
 
 pub loop-b-preserved : goal.loop-b-preserved
 loop-b-preserved c =
-    let k = c in
-    let h = k in
-    let s = h in
-    let y = s.args.y.now in
-    let block = k.store.ensures ∙ ap bytes k.state_in.ensures in (
+    let y = c.args.y.now in
+    let block = c.store.ensures ∙ ap bytes c.state_in.ensures in (
       omega arith,
-      k.put_at.ensures
-          ∙ (λ i. paste (h.loop-b.invariant.1 i) (s.args.at + 16 * h.loop-b.b) (block i) 16)
-          ∙ paste_strung s.args.d.now s.args.at h.loop-b.b (blocks y) (rows_sixteen y) (omega (arith, s.requires.1)),
+      c.put_at.ensures
+          ∙ (λ i. paste (c.loop-b.invariant.1 i) (c.args.at + 16 * c.loop-b.b) (block i) 16)
+          ∙ paste_strung c.args.d.now c.args.at c.loop-b.b (blocks y) (rows_sixteen y) (omega (arith, c.requires.1)),
     )
 
 pub returns : goal.returns
 returns c =
-    let h = c in
-    let all : h.loop-b.b ≡ 64 = omega arith in
-    rw all at h.loop-b.invariant.1
+    let all : c.loop-b.b ≡ 64 = omega arith in
+    rw all at c.loop-b.invariant.1

@@ -12,15 +12,12 @@ use Rattle.planes.proofs.storing.store.Goals as goal
 
 pub put-requires : goal.put-requires
 put-requires c =
-    let h = c in
-    (rw h.turn.ensures (turned_shaped _), h.requires.1)
+    (rw c.turn.ensures (turned_shaped _), c.requires.1)
 
 pub returns : goal.returns
 returns c =
-    let h = c in
-    let s = h in
     let put = c.put.ensures
-    ∙ ap (λ (l : List ℕ). paste s.args.d.now s.args.at l 1024)
-    (strung_ext 64 _ (λ b. bytes (lane s.args.x.now b))
-    (λ b l. ap (λ (y : List (List ℕ)). bytes (rows_in y b)) h.turn.ensures ∙ ap bytes (rows_turned s.args.x.now b l))) in
-    (h.turn.ensures, put)
+    ∙ ap (λ (l : List ℕ). paste c.args.d.now c.args.at l 1024)
+    (strung_ext 64 _ (λ b. bytes (lane c.args.x.now b))
+    (λ b l. ap (λ (y : List (List ℕ)). bytes (rows_in y b)) c.turn.ensures ∙ ap bytes (rows_turned c.args.x.now b l))) in
+    (c.turn.ensures, put)

@@ -7,6 +7,5 @@ use Rattle.transposition.proofs.between.exchange_16.Goals as goal
 pub returns : goal.returns
 unfolding exchanged_rows
 returns c =
-    let h = c in
-    let a = h.args in
-    λ i. set (set a.x.now a.i (h.pairs_16-p.ensures.first i)) (a.i + 1) (h.pairs_16-p.ensures.second i)
+    let a = c.args in
+    λ i. set (set a.x.now a.i (c.pairs_16-p.ensures.first i)) (a.i + 1) (c.pairs_16-p.ensures.second i)

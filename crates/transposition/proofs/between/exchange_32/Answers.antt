@@ -7,6 +7,5 @@ use Rattle.transposition.proofs.between.exchange_32.Goals as goal
 pub returns : goal.returns
 unfolding exchanged_rows
 returns c =
-    let h = c in
-    let a = h.args in
-    λ i. set (set a.x.now a.i (h.pairs_32-p.ensures.first i)) (a.i + 2) (h.pairs_32-p.ensures.second i)
+    let a = c.args in
+    λ i. set (set a.x.now a.i (c.pairs_32-p.ensures.first i)) (a.i + 2) (c.pairs_32-p.ensures.second i)

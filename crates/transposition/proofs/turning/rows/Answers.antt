@@ -8,6 +8,5 @@ use Rattle.transposition.proofs.turning.rows.Goals as goal
 
 pub returns : goal.returns
 returns c =
-    let h = c in
-    let all : h.loop-i.i ≡ 8 = omega arith in
-    replaced_all [] (rw all at h.loop-i.invariant.1) ∙ within_rows h.args.x.now
+    let all : c.loop-i.i ≡ 8 = omega arith in
+    replaced_all [] (rw all at c.loop-i.invariant.1) ∙ within_rows c.args.x.now

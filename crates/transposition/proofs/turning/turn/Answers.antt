@@ -6,6 +6,5 @@ use Rattle.transposition.proofs.turning.turn.Goals as goal
 pub returns : goal.returns
 unfolding turned
 returns c =
-    let h = c in
     c.level_32.ensures
-    ∙ ap (level 32 0x00000000FFFFFFFF) (h.level_16.ensures ∙ ap (level 16 0x0000FFFF0000FFFF) h.rows.ensures)
+    ∙ ap (level 32 0x00000000FFFFFFFF) (c.level_16.ensures ∙ ap (level 16 0x0000FFFF0000FFFF) c.rows.ensures)
