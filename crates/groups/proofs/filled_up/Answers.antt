@@ -1,0 +1,16 @@
+-- By what it calls: bytes copied to the start of a group, and back from it.
+use mathlib.Core.Path.{◌∙◌}
+use Prim.Native.Nat.{◌+◌, ◌-◌, ◌*◌}
+use native.Mathlib.Omega.{arith}
+use Rattle.turns.specs.Turns.{ciphered}
+use Rattle.turns.proofs.Ways.{ciphered_blockwise}
+use Rattle.groups.proofs.PutBack.{put_back}
+use Rattle.groups.proofs.filled_up.Goals as goal
+
+pub returns : goal.returns
+returns c =
+    let a = c.args in
+    put_back (ciphered a.ahead a.k a.n a.key) (ciphered_blockwise a.ahead a.k a.n a.key) a.tweaks.now a.blocks.now
+    a.r a.at (a.at + 16 * a.r - a.at) (omega arith) (omega arith) (omega arith) (omega arith)
+    c.copy.auto.d c.copy-2.auto.d (c.group.auto.blocks ∙ c.copy-2.auto.d)
+    _ _ c.copy.ensures c.copy-2.ensures c.group.ensures c.copy-3.ensures
