@@ -12,5 +12,5 @@ returns c =
     let a = c.args in
     put_back (ciphered a.ahead a.k a.n a.key) (ciphered_blockwise a.ahead a.k a.n a.key) a.tweaks.now a.blocks.now
     a.r a.at (a.at + 16 * a.r - a.at) (omega arith) (omega arith) (omega arith) (omega arith)
-    c.copy.auto.d c.copy-2.auto.d (c.group.auto.blocks ∙ c.copy-2.auto.d)
+    (omega arith) (omega arith) (omega arith)
     _ _ c.copy.ensures c.copy-2.ensures c.group.ensures c.copy-3.ensures
