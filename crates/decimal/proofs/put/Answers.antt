@@ -16,7 +16,6 @@ returns-then-out-count c =
 
 pub returns : goal.returns
 returns c =
-    let h = c in
-    let a = h.args in
-    rw (digits_within_all (length a.out.now) a.n (omega (arith, h.count.ensures, h.if-out-count.false)))
+    let a = c.args in
+    rw (digits_within_all (length a.out.now) a.n (omega (arith, c.count.ensures, c.if-out-count.false)))
     c.put_all.ensures

@@ -14,10 +14,10 @@ use Rattle.ranges.proofs.take_in.Goals as goal
 
 pub loop-j-preserved-then-n-gt0 : goal.loop-j-preserved-then-n-gt0
 loop-j-preserved-then-n-gt0 c =
-    let rest : let b = c.args.b.now in drop c.loop-j.j (trigrams b) ≡ c.at-v.result ∷ drop (c.loop-j.j + 1) (trigrams b) = drop_next c.args.b.now c.loop-j.j c.at-v.result (omega arith) c.at-v.ensures.is in
     let a = c.args in
     let v = c.at-v.result in
-    let y = drop (c.loop-j.j + 1) (trigrams a.b.now) in (
+    let y = drop (c.loop-j.j + 1) (trigrams a.b.now) in
+    let rest : drop c.loop-j.j (trigrams a.b.now) ≡ c.at-v.result ∷ y = drop_next a.b.now c.loop-j.j c.at-v.result (omega arith) c.at-v.ensures.is in (
       omega arith,
       omega arith,
       length-set c.loop-j.counts (v % 4096) (get_or c.loop-j.counts (v % 4096) 0 - 1) ∙ c.loop-j.invariant.2,
@@ -31,9 +31,9 @@ loop-j-preserved-then-n-gt0 c =
 
 pub loop-j-preserved-else-n-gt0 : goal.loop-j-preserved-else-n-gt0
 loop-j-preserved-else-n-gt0 c =
-    let rest : let b = c.args.b.now in drop c.loop-j.j (trigrams b) ≡ c.at-v.result ∷ drop (c.loop-j.j + 1) (trigrams b) = drop_next c.args.b.now c.loop-j.j c.at-v.result (omega arith) c.at-v.ensures.is in
     let a = c.args in
-    let y = drop (c.loop-j.j + 1) (trigrams a.b.now) in (
+    let y = drop (c.loop-j.j + 1) (trigrams a.b.now) in
+    let rest : drop c.loop-j.j (trigrams a.b.now) ≡ c.at-v.result ∷ y = drop_next a.b.now c.loop-j.j c.at-v.result (omega arith) c.at-v.ensures.is in (
       omega arith,
       omega arith,
       c.loop-j.invariant.2,
@@ -47,9 +47,9 @@ loop-j-preserved-else-n-gt0 c =
 
 pub loop-j-preserved : goal.loop-j-preserved
 loop-j-preserved c =
-    let rest : let b = c.args.b.now in drop c.loop-j.j (trigrams b) ≡ c.at-v.result ∷ drop (c.loop-j.j + 1) (trigrams b) = drop_next c.args.b.now c.loop-j.j c.at-v.result (omega arith) c.at-v.ensures.is in
     let a = c.args in
-    let y = drop (c.loop-j.j + 1) (trigrams a.b.now) in (
+    let y = drop (c.loop-j.j + 1) (trigrams a.b.now) in
+    let rest : drop c.loop-j.j (trigrams a.b.now) ≡ c.at-v.result ∷ y = drop_next a.b.now c.loop-j.j c.at-v.result (omega arith) c.at-v.ensures.is in (
       omega arith,
       omega arith,
       c.loop-j.invariant.2,

@@ -13,7 +13,8 @@ use Rattle.rows.proofs.column.Goals as goal
 digits_last : (at n : ℕ) (b w d p : List ℕ) → length b ≡ at → at + length d ≡ length w
     → let x = b ++ drop at w in
     p ≡ d ++ drop (length d) (take (length x - at) (drop at x)) → take at x ++ (p ++ drop (length x - at) (drop at x)) ≡ b ++ d
-digits_last at n b w d p e f is = let x = b ++ drop at w in
+digits_last at n b w d p e f is =
+    let x = b ++ drop at w in
     let behind : drop at x ≡ drop at w = drop_at b (drop at w) at e in
     let long : length x ≡ length w = length-append b (drop at w) ∙ omega (arith, length-drop at w) in
     let none : drop (length x - at) (drop at x) ≡ [] =
@@ -27,24 +28,21 @@ digits_last at n b w d p e f is = let x = b ++ drop at w in
 pub returns : goal.returns
 unfolding right_aligned
 returns c =
-    let blanks-long : let w = c.args.out.now in length w - c.count.result ≡ length (take (length w - c.count.result) w) = let w = c.args.out.now in sym (length-take-le (length w - c.count.result) w (omega arith)) in
-    let u = c in
-    let v = u in
-    let h = v in
-    let a = h.args in
+    let a = c.args in
     let w = a.out.now in
-    let at = length w - h.count.result in
-    let b = v.blanks.new.out in
+    let at = length w - c.count.result in
+    let blanks_long : at ≡ length (take at w) = sym (length-take-le at w (omega arith)) in
+    let b = c.blanks.new.out in
     let x = b ++ drop at w in
     let d = digits a.n in
-    let some : at ≡ length w - length d = ap (λ (k : ℕ). length w - k) h.count.ensures in
-    let b-is : b ≡ replicate at 0x20 = v.blanks.ensures ∙ ap (λ (k : ℕ). replicate k 0x20) (sym (blanks-long)) in
+    let some : at ≡ length w - length d = ap (λ (k : ℕ). length w - k) c.count.ensures in
+    let b-is : b ≡ replicate at 0x20 = c.blanks.ensures ∙ ap (λ (k : ℕ). replicate k 0x20) (sym blanks_long) in
     let b-long : length b ≡ at = ap length b-is ∙ length-replicate {A = ℕ} at 0x20 in
-    let fit : at + length d ≡ length w = omega (arith, h.count.ensures, h.requires) in
+    let fit : at + length d ≡ length w = omega (arith, c.count.ensures, c.requires) in
     let part = take (length x - at) (drop at x) in
     let x-long : length x ≡ length w = length-append b (drop at w) ∙ omega (arith, length-drop at w) in
     let part-long : length part ≡ length w - at =
     length-take-le (length x - at) (drop at x) (rw length-drop (omega arith)) ∙ ap (λ (k : ℕ). k - at) x-long in
     let all : digits_within (length part) a.n ≡ d = digits_within_all (length part) a.n (omega (arith, part-long)) in
-    digits_last at 0 b w d u.put-k.new.out b-long fit (u.put-k.ensures.bytes ∙ ap (λ (s : List ℕ). s ++ drop (length s) part) all)
+    digits_last at 0 b w d c.put-k.new.out b-long fit (c.put-k.ensures.bytes ∙ ap (λ (s : List ℕ). s ++ drop (length s) part) all)
     ∙ (λ i. (b-is ∙ ap (λ (k : ℕ). replicate k 0x20) some) i ++ d)

@@ -14,8 +14,7 @@ five w h = sym (length-take-le 5 w (omega arith))
 
 pub column-requires : goal.column-requires
 column-requires c =
-    let p = c in
-    omega (arith, length_fits p.args.len p.requires.0, five p.args.out.now p.requires.2)
+    omega (arith, length_fits c.args.len c.requires.0, five c.args.out.now c.requires.2)
 
 -- what the first column leaves
 first_long : (w b : List ℕ) (len : ℕ) → length w ≡ 12 → len ≤ 4096 → b ≡ right_aligned (length (take 5 w)) len → length b ≡ 5

@@ -14,29 +14,21 @@ not_first l v (suc k) e d = omega arith
 
 pub loop-k-preserved : goal.loop-k-preserved
 loop-k-preserved c =
-    let passed : let g = c in let a = g.args in get_or a.keys.now g.loop-k.k 0 ≡ a.v → ⊥ = λ q. c.loop-k-test.true (c.key.ensures ∙ q) in
-    let positive : 0 < c.loop-k.k = let g = c in
-    let st = g in
-    not_first st.args.keys.now st.args.v g.loop-k.k st.requires.0 passed in
-    let less : c.at-k.result < c.loop-k.k = let g = c in
-    omega (arith, c.at-k.ensures.is, g.requires.1.below g.loop-k.k positive) in
-    let g = c in
-    let st = g in
-    let a = st.args in
-    let nx = a.next.now in
-    let r : ℕ → ℕ = λ j. get_or a.keys.now j 0 in (
-      omega (arith, less),
-      g.loop-k.invariant.1
-          ∙ look_on st.requires.1 r a.v g.loop-k.k (positive) (passed)
-          ∙ ap (λ (j : ℕ). look nx r a.v j j) (sym c.at-k.ensures.is),
+    let a = c.args in
+    let k = c.loop-k.k in
+    let passed : get_or a.keys.now k 0 ≡ a.v → ⊥ = λ q. c.loop-k-test.true (c.key.ensures ∙ q) in
+    let positive : 0 < k = not_first a.keys.now a.v k c.requires.0 passed in (
+      omega (arith, c.at-k.ensures.is, c.requires.1.below k positive),
+      c.loop-k.invariant.1
+          ∙ look_on c.requires.1 (λ j. get_or a.keys.now j 0) a.v k positive passed
+          ∙ ap (λ (j : ℕ). look a.next.now (λ i. get_or a.keys.now i 0) a.v j j) (sym c.at-k.ensures.is),
     )
 
 pub returns : goal.returns
 returns c =
-    let g = c in
-    let a = g.args in
+    let a = c.args in
     record {
-      is = sym (g.loop-k.invariant.1
-          ∙ look_here a.next.now (λ j. get_or a.keys.now j 0) a.v g.loop-k.k (sym c.key.ensures ∙ c.loop-k-test.false));
-      within = g.loop-k.invariant.0;
+      is = sym (c.loop-k.invariant.1
+          ∙ look_here a.next.now (λ j. get_or a.keys.now j 0) a.v c.loop-k.k (sym c.key.ensures ∙ c.loop-k-test.false));
+      within = c.loop-k.invariant.0;
     }

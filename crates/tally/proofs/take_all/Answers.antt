@@ -11,19 +11,14 @@ loop-j-init c =
 
 pub loop-j-preserved : goal.loop-j-preserved
 loop-j-preserved c =
-    let k = c in
-    let v = k in
-    let h = v in
-    let a = h.args in
-    let t = k.take_one-d.ensures in (
-      omega (arith, v.loop-j-test.true),
+    let a = c.args in
+    let t = c.take_one-d.ensures in (
+      omega (arith, c.loop-j-test.true),
       omega (arith, t.small),
       t.left,
-      taken_next t a.t.now h.loop-j.j h.loop-j.c v.loop-j-test.true v.at.ensures.is ∙ h.loop-j.invariant.3,
+      taken_next t a.t.now c.loop-j.j c.loop-j.c c.loop-j-test.true c.at.ensures.is ∙ c.loop-j.invariant.3,
     )
 
 pub returns : goal.returns
 returns c =
-    let h = c in
-    let st = h in
-    compared st.args.t.now h.loop-j.c h.loop-j.j st.requires h.loop-j.invariant.2 h.loop-j.invariant.3 c.loop-j-test.false
+    compared c.args.t.now c.loop-j.c c.loop-j.j c.requires c.loop-j.invariant.2 c.loop-j.invariant.3 c.loop-j-test.false
