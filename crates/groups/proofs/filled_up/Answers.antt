@@ -1,5 +1,4 @@
 -- By what it calls: bytes copied to the start of a group, and back from it.
-use mathlib.Core.Path.{◌∙◌}
 use Prim.Native.Nat.{◌+◌, ◌-◌, ◌*◌}
 use native.Mathlib.Omega.{arith}
 use Rattle.turns.specs.Turns.{ciphered}
