@@ -1,12 +1,11 @@
 -- Whole blocks before the text's end; or up to it, with the last block by itself.
-use mathlib.Core.Path.{◌≡◌, refl, sym, ap, ◌∙◌}
+use mathlib.Core.Path.{◌≡◌, refl, ap, ◌∙◌}
 use mathlib.Core.Bool.{false}
 use mathlib.Core.List.{List, ◌++◌, append-nil}
 use Prim.Native.Nat.{ℕ, ◌+◌, ◌-◌, ◌*◌, ◌/◌, ◌%◌, ◌<◌}
 use native.Mathlib.Omega.{arith}
-use borrow.Author.Rules.{rules}
 use lib.ListN.{length, take, drop}
-use lib.Seq.{take_at, drop_at, length-take-le}
+use lib.Seq.{take_at, drop_at}
 use Rattle.bits.specs.Bytes.{added}
 use Rattle.calls.specs.Calls.{length_block}
 use Rattle.calls.specs.Tweak.{text_tweak, special_tweak, last_text_mark}
@@ -18,39 +17,27 @@ use Rattle.text_blocks.proofs.Chunks.{deciphers_blockwise}
 use Rattle.text_blocks.proofs.Parts.{before_whole, last_there, front_blocks, through_before, through_none, through_last}
 use Rattle.bits.proofs.Lists.{part_rest}
 use Rattle.sums.proofs.Sums.{part_none}
-use Rattle.text_blocks.proofs.through.Statement.{statement}
-use Rattle.text_blocks.proofs.through.Tie as tie
+use Rattle.text_blocks.proofs.through.Goals as goal
 
--- the whole blocks before the last
-front : (c : tie.Else2) → let s = c.before.before.before.before.before.args.s.now in let at = 16 * ((length s - 1) / 16) in at ≡ length (take at s)
-front c =
-    let s = c.before.before.before.before.before.args.s.now in
-    sym (length-take-le (16 * ((length s - 1) / 16)) s (omega arith))
-
-blocks-requires-2 : tie.Need-blocks-requires-2
-blocks-requires-2 c κs =
-    let p = c.before.before.before.before.before.before in
-    (p.requires.0, omega (arith, front c.before))
-
-returns : tie.Need-returns
-returns c =
-    let p = c.before.before.before.before.before.before.before.before in
+pub returns-then-end-m : goal.returns-then-end-m
+returns-then-end-m c =
+    let p = c in
     let a = p.args in
     let n = length a.s.now in
     let whole : n % 16 ≡ 0 = before_whole a.m (16 * a.first.0 + n) n p.requires.1.whole (omega arith) in
-    c.before.before.blocks2.ensures
+    c.blocks-then-end-m.ensures
     ∙ through_before (deciphers a.suite a.key) (enciphers a.suite a.key) a.nonce.now a.m a.first.0 a.s.now
     (omega arith) whole
 
-returns-2 : tie.Need-returns-2
-returns-2 c =
-    let a = c.before.before.before.before.before.args in
-    through_none (deciphers a.suite a.key) (enciphers a.suite a.key) a.nonce.now a.m a.first.0 a.s.now c.if2.true
+pub returns-then-n-eq0 : goal.returns-then-n-eq0
+returns-then-n-eq0 c =
+    let a = c.args in
+    through_none (deciphers a.suite a.key) (enciphers a.suite a.key) a.nonce.now a.m a.first.0 a.s.now c.if-n-eq0.true
 
-returns-3 : tie.Need-returns-3
-returns-3 c =
-    let h = c.before.before.before.before.before.before in
-    let p = h.before.before.before.before.before.before.before in
+pub returns : goal.returns
+returns c =
+    let h = c in
+    let p = h in
     let a = p.args in
     let s = a.s.now in
     let n = length s in
@@ -59,8 +46,8 @@ returns-3 c =
     let g : ℕ → List ℕ → List ℕ = λ i b. numbered false a.suite a.key a.nonce.now (a.first.0 + i) b in
     let tweak : (i : ℕ) → length (text_tweak a.nonce.now (a.first.0 + i)) ≡ 16 = λ i. length_tweak a.nonce.now 0x00 (a.first.0 + i) (omega arith) in
     let some : 0 < n = omega arith in
-    let R = h.blocks3.new.1.1.1.1.1.0 in
-    let made : R ≡ strung k (λ i. g i (block s i)) = h.blocks3.ensures ∙ front_blocks g s k (omega arith) in
+    let R = h.blocks-2.new.s in
+    let made : R ≡ strung k (λ i. g i (block s i)) = h.blocks-2.ensures ∙ front_blocks g s k (omega arith) in
     let long : length R ≡ at =
     ap length made
     ∙ strung_whole k (λ i. g i (block s i))
@@ -72,31 +59,9 @@ returns-3 c =
     let pad = added-to (length_block (n - at)) in
     let W = R ++ drop at s in
     let left : take (length W - at) (drop at W) ≡ drop at s = part_rest at W ∙ drop_at R (drop at s) at long in
-    let new : c.before.before.add-to.new.0 ≡ added (drop at s) pad =
-    c.before.before.add-to.ensures ∙ (λ j. added (left j) ((p.requires.2 some end ∙ ap (λ r. added-to (length_block r)) last) j)) in
+    let new : c.add_to.new.d ≡ added (drop at s) pad =
+    c.add_to.ensures ∙ (λ j. added (left j) ((p.requires.2 some end ∙ ap (λ r. added-to (length_block r)) last) j)) in
     (λ j. (take_at R (drop at s) at long ∙ made) j ++ (new j ++ part_none at W j))
     ∙ ap (λ l. strung k (λ i. g i (block s i)) ++ l) (append-nil (added (drop at s) pad))
     ∙ through_last (deciphers a.suite a.key) (enciphers a.suite a.key) a.nonce.now a.m a.first.0 s
     k refl some end
-
-pub through-spec : {M : Type 1} → statement M
-through-spec =
-    tie.close
-    (tie.spec
-    (λ c κs. search rules)
-    (λ c. search rules)
-    (λ c κs. search rules)
-    (λ c. search rules)
-    returns
-    returns-2
-    (λ c. search rules)
-    (λ c. search rules)
-    (λ c. search rules)
-    (λ c. front c.before)
-    blocks-requires-2
-    (λ c. search rules)
-    (λ c. search rules)
-    (λ c. search rules)
-    (λ c κs. search rules)
-    (λ c. search rules)
-    returns-3)
