@@ -1,0 +1,28 @@
+-- The inner blocks, and then the last, filled, under its own tweak.
+use mathlib.Core.Path.{ap, ◌∙◌}
+use Prim.Native.Nat.{◌-◌, ◌*◌, ◌/◌}
+use native.Mathlib.Omega.{arith}
+use lib.ListN.{length}
+use Rattle.bits.specs.Bytes.{added}
+use Rattle.calls.specs.Calls.{filled}
+use Rattle.calls.specs.Tweak.{special_tweak}
+use Rattle.text_blocks.specs.Under.{enciphers}
+use Rattle.mode.proofs.Headers.{header_none, header-all}
+use Rattle.bits.proofs.Lists.{part_rest}
+use Rattle.mode.proofs.header.sum.Goals as goal
+
+pub returns-then-a-eq0 : goal.returns-then-a-eq0
+returns-then-a-eq0 c =
+    let a = c.args in
+    header_none (enciphers a.suite a.key) a.nonce.now a.header.now (omega arith)
+
+pub returns : goal.returns
+returns c =
+    let f = c in
+    let a = f.args in
+    let h = a.header.now in
+    let n = (length h - 1) / 16 in
+    let tweak = c.special_tweak-t.ensures ∙ ap (special_tweak a.nonce.now) c.last_header_mark.ensures in
+    let last = f.fill-last.ensures ∙ ap (filled 0x80) (part_rest (16 * n) h) in
+    let one = c.encipher_one.ensures ∙ (λ i. enciphers a.suite a.key (tweak i) (last i)) in
+    c.add.ensures ∙ (λ i. added (f.inner-whole.ensures i) (one i)) ∙ header-all (enciphers a.suite a.key) a.nonce.now h n (omega arith)
