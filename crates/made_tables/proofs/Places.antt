@@ -1,10 +1,10 @@
 -- The rules and the S-boxes by their places.
 use mathlib.Core.Path.{◌≡◌, refl, sym, ap, ◌∙◌}
-use mathlib.Core.Bool.{true, false}
+use mathlib.Core.Bool.{true}
 use mathlib.Core.List.{List}
 use Prim.Native.Nat.{ℕ, zero, suc, ◌+◌, ◌-◌, ◌/◌, ◌%◌, ◌≤◌, ◌<◌}
 use native.Mathlib.Omega.{arith}
-use borrow.Author.Tests.{lt-ltb, le-ltb}
+use borrow.Author.Tests.{lt-ltb}
 use lib.Dec.{lit<}
 use lib.ListN.{length, get_or}
 use Rattle.sbox.specs.Sbox
@@ -77,8 +77,3 @@ pub makes_one : (p : ℕ) (before : List ℕ) {after : List ℕ} → p < 15 → 
 makes_one p before h e =
     let y = lt-ltb p 15 h in
     record { says = sym y; bytes = rw y e }
-
-pub makes_none : (p : ℕ) (before : List ℕ) → 15 ≤ p → Makes p before before false
-makes_none p before h =
-    let y = le-ltb p 15 h in
-    record { says = sym y; bytes = rw y refl }

@@ -1,11 +1,11 @@
 -- One bit of four rows times a column of the matrix, for each bit, and the sum of these: the matrix times the four rows.
 use mathlib.Core.Path.{◌≡◌, refl, sym, ap, ◌∙◌}
 use mathlib.Core.List.{List, [], ◌∷◌}
-use Prim.Native.Nat.{ℕ, zero, suc, ◌+◌, ◌-◌, ◌*◌, ◌/◌, ◌%◌, ◌^◌, ◌≤◌, ◌<◌}
+use Prim.Native.Nat.{ℕ, zero, suc, ◌+◌, ◌-◌, ◌*◌, ◌/◌, ◌%◌, ◌^◌, ◌<◌}
 use native.Mathlib.Nat.{zero-mul, one-mul, add-mul, mul_right_comm, add_comm, mod-lt, mod-one, mod-eq_of_lt, div-one}
 use native.Mathlib.Numerals.{one-add}
 use native.Mathlib.Omega.{arith}
-use lib.Bits.{bit_and, bit_xor, and_block, and_mask, and_le_r, xor_comm, xor_shifted}
+use lib.Bits.{bit_and, bit_xor, and_block, and_mask, xor_comm, xor_shifted}
 use lib.ListN.{length}
 use lib.Pow.{pow_pos, split, shr-shr, field, mod-mod-pow, mod-pow-add}
 use Rattle.bits.specs.Bit.{bit}
@@ -128,10 +128,6 @@ from x (suc i) = x / 2 ^ suc i
 from_is : (x i : ℕ) → from x i ≡ x / 2 ^ i
 from_is x zero = sym (div-one x)
 from_is x (suc i) = refl
-
--- small enough for the product with a column
-pub bits_most : (x i : ℕ) → bit_and (from x i) ones ≤ ones
-bits_most x i = and_le_r (from x i) ones
 
 module _ (m : List (List ℕ)) (long : length m ≡ 16) where
   -- the whole of the matrix times a row

@@ -1,32 +1,14 @@
 -- What the code does one way or the other is the cipher's.
-use mathlib.Core.Path.{◌≡◌, refl, sym, ap, ◌∙◌}
-use mathlib.Core.Bool.{Bool, true, false, cond}
+use mathlib.Core.Path.{◌≡◌, sym, ap, ◌∙◌}
+use mathlib.Core.Bool.{Bool, true, false}
 use mathlib.Core.List.{List}
-use Prim.Native.Nat.{ℕ, ◌+◌, ◌*◌, ◌≤◌, ◌<◌}
-use native.Mathlib.Omega.{arith}
+use Prim.Native.Nat.{ℕ, ◌+◌, ◌*◌}
 use lib.ListN.{length}
 use Rattle.blockwise.proofs.Each.{Blockwise}
 use Rattle.rounds.specs.declared.Cipher.{Cipher}
-use Rattle.sbox.specs.Sbox
-use Rattle.lbox.specs.Lbox
-use Rattle.rounds.specs.Cipher.{Parts, constant, add_constant, round, unround}
+use Rattle.rounds.specs.Cipher.{Parts, constant, round, unround}
 use Rattle.runs.proofs.Runs.{ahead_blockwise, back_blockwise, encipher_run, decipher_run}
-use Rattle.turns.specs.Turns.{ciphered, round_by, step_at, two_rounds}
-
--- both ways the same box
-pub either_way : {A : Type 0} (ahead : Bool) (x : A) → x ≡ cond ahead x x
-either_way true x = refl
-either_way false x = refl
-
--- a round, or a round undone, by the boxes of the way
-module _ (p : Parts) (c : ℕ) (x : List ℕ) {ahead : Bool} where
-  pub round_ahead : ahead ≡ true
-      → Lbox.layer (cond ahead p.lbox p.lbox_inverse) (add_constant c (Sbox.layer (cond ahead p.sbox p.sbox_inverse) x)) ≡ round_by ahead p c x
-  round_ahead e = rw e refl
-
-  pub round_back_lem : ahead ≡ false
-      → Sbox.layer (cond ahead p.sbox p.sbox_inverse) (add_constant c (Lbox.layer (cond ahead p.lbox p.lbox_inverse) x)) ≡ round_by ahead p c x
-  round_back_lem e = rw e refl
+use Rattle.turns.specs.Turns.{ciphered, round_by, two_rounds}
 
 -- the two rounds of a step, by the constants
 module _ (p : Parts) (s : ℕ) (x : List ℕ) {ahead : Bool} {a b : ℕ} (first : a ≡ constant (2 * s + 1)) (second : b ≡ constant (2 * s + 2)) where
@@ -37,11 +19,6 @@ module _ (p : Parts) (s : ℕ) (x : List ℕ) {ahead : Bool} {a b : ℕ} (first 
   pub two_back : ahead ≡ false → round_by ahead p a (round_by ahead p b x) ≡ two_rounds ahead p s x
   unfolding two_rounds unround
   two_back e = rw e (λ i. round_by false p (first i) (round_by false p (second i) x))
-
--- the step of a turn is below 14
-pub step_below : (ahead : Bool) (n i : ℕ) → i < n → n ≤ 14 → step_at ahead n i < 14
-step_below true n i h k = omega arith
-step_below false n i h k = omega arith
 
 -- sixteen bytes in, sixteen bytes out
 pub ciphered_blockwise : (ahead : Bool) (c : Cipher) (n : ℕ) (key : List ℕ) → Blockwise (ciphered ahead c n key)

@@ -10,5 +10,4 @@ loop-j-init c =
 
 pub loop-j-preserved : goal.loop-j-preserved
 loop-j-preserved c =
-    let h = c in
-    (omega arith, cc (dot_down h.args.row h.loop-j.j h.args.x (omega arith) (omega arith)))
+    (omega arith, cc (dot_down c.args.row c.loop-j.j c.args.x (omega arith) (omega arith)))

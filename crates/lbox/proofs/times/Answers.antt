@@ -9,15 +9,12 @@ loop-i-init c =
 
 pub overflow_mul-product : goal.overflow_mul-product
 overflow_mul-product c =
-    let h = c in
-    omega (arith, h.loop-i.invariant.1, times_room h.args.m h.loop-i.i h.args.x (omega arith) (omega arith))
+    omega (arith, c.loop-i.invariant.1, times_room c.args.m c.loop-i.i c.args.x (omega arith) (omega arith))
 
 pub overflow_add-product : goal.overflow_add-product
 overflow_add-product c =
-    let h = c in
-    omega (arith, h.loop-i.invariant.1, times_room h.args.m h.loop-i.i h.args.x (omega arith) (omega arith))
+    omega (arith, c.loop-i.invariant.1, times_room c.args.m c.loop-i.i c.args.x (omega arith) (omega arith))
 
 pub loop-i-preserved : goal.loop-i-preserved
 loop-i-preserved c =
-    let h = c in
-    (omega arith, cc (times_down h.args.m h.loop-i.i h.args.x (omega arith) (omega arith)))
+    (omega arith, cc (times_down c.args.m c.loop-i.i c.args.x (omega arith) (omega arith)))

@@ -10,7 +10,6 @@ use Rattle.made_tables.proofs.lbox_table.Goals as goal
 
 pub returns : goal.returns
 returns c =
-    let h = c in
-    let a = h.args in
-    let e : h.loop-b.b ≡ 256 = omega arith in
-    filled_all (rw e at h.loop-b.invariant.1) ∙ ap (λ (m : List (List ℕ)). tab 256 (made (product m a.from a.to))) h.matrix-m.ensures
+    let a = c.args in
+    let e : c.loop-b.b ≡ 256 = omega arith in
+    filled_all (rw e at c.loop-b.invariant.1) ∙ ap (λ (m : List (List ℕ)). tab 256 (made (product m a.from a.to))) c.matrix-m.ensures

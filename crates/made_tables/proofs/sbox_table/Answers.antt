@@ -12,18 +12,16 @@ use Rattle.made_tables.proofs.sbox_table.Goals as goal
 
 pub loop-b-preserved : goal.loop-b-preserved
 loop-b-preserved c =
-    let h = c in
-    let x = h.args.x in
-    let small : h.loop-b.b % 256 ≡ h.loop-b.b = omega arith in
-    let w : c.equations-w.result ≡ Sbox.layer (sbox_of x) (Sbox.alone h.loop-b.b) =
+    let x = c.args.x in
+    let small : c.loop-b.b % 256 ≡ c.loop-b.b = omega arith in
+    let w : c.equations-w.result ≡ Sbox.layer (sbox_of x) (Sbox.alone c.loop-b.b) =
     c.equations-w.ensures ∙ ap (Sbox.layer (sbox_of x)) (c.alone.ensures ∙ ap Sbox.alone small) in
-    let e : c.first.result ≡ get_or (sbox_of x) h.loop-b.b 0 =
-    c.first.ensures ∙ ap (λ (w : List ℕ). Sbox.column w 0) w ∙ through x h.loop-b.b (omega arith) in
-    (omega arith, filled_more h.loop-b.invariant.1 (omega arith) c.first.result e)
+    let e : c.first.result ≡ get_or (sbox_of x) c.loop-b.b 0 =
+    c.first.ensures ∙ ap (λ (w : List ℕ). Sbox.column w 0) w ∙ through x c.loop-b.b (omega arith) in
+    (omega arith, filled_more c.loop-b.invariant.1 (omega arith) c.first.result e)
 
 pub returns : goal.returns
 returns c =
-    let h = c in
-    let x = h.args.x in
-    let e : h.loop-b.b ≡ 256 = omega arith in
-    filled_all (rw e at h.loop-b.invariant.1) ∙ tab_get_or 256 (sbox_of x) (sbox_long x)
+    let x = c.args.x in
+    let e : c.loop-b.b ≡ 256 = omega arith in
+    filled_all (rw e at c.loop-b.invariant.1) ∙ tab_get_or 256 (sbox_of x) (sbox_long x)

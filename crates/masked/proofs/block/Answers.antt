@@ -6,8 +6,7 @@ use Rattle.masked.proofs.block.Goals as goal
 
 pub returns : goal.returns
 returns c =
-    let h = c in
-    let a = h.args in
+    let a = c.args in
     c.store.ensures
-    ∙ block_is a.ahead a.k a.n a.key a.tweak a.b h.schedule_of-h.result (tweakeys_held h.schedule_of-h.ensures)
-    h.load.ensures h.load-2.ensures c.load-3.ensures c.turns-x.ensures
+    ∙ block_is a.ahead a.k a.n a.key a.tweak a.b c.schedule_of-h.result (tweakeys_held c.schedule_of-h.ensures)
+    c.load.ensures c.load-2.ensures c.load-3.ensures c.turns-x.ensures

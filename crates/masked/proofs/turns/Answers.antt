@@ -12,8 +12,7 @@ use Rattle.masked.proofs.turns.Goals as goal
 
 pub loop-i-preserved : goal.loop-i-preserved
 loop-i-preserved c =
-    let l = c in
-    let a = l.args in
+    let a = c.args in
     let p = parts a.k in
     let tk = tweakeys_in a.k a.h in
     let s = c.step_at-s.ensures in
@@ -23,18 +22,16 @@ loop-i-preserved c =
       omega arith,
       λ x e.
           c.add-z.ensures
-          ∙ (λ j. add_rows ((c.two_rounds-w.ensures ∙ (λ m. two_rounds a.ahead p (s m) (l.loop-i.invariant.1 x e m))) j) (t j))
-          ∙ turns_next a.ahead p tk a.n l.loop-i.i x,
+          ∙ (λ j. add_rows ((c.two_rounds-w.ensures ∙ (λ m. two_rounds a.ahead p (s m) (c.loop-i.invariant.1 x e m))) j) (t j))
+          ∙ turns_next a.ahead p tk a.n c.loop-i.i x,
     )
 
 pub returns : goal.returns
 unfolding turns
 returns c =
-    let l = c in
-    let h = l in
-    let a = h.args in
-    let e : l.loop-i.i ≡ a.n = omega arith in
-    let t = ap rows_of h.tweakey.ensures
-    ∙ sym (tweakeys_in_lem a.k a.h h.key_before.result)
-    ∙ ap (tweakeys_in a.k a.h) h.key_before.ensures in
-    rw e at (l.loop-i.invariant.1 (rows_of a.x) (h.add-y.ensures ∙ ap (add_rows (rows_of a.x)) t))
+    let a = c.args in
+    let e : c.loop-i.i ≡ a.n = omega arith in
+    let t = ap rows_of c.tweakey.ensures
+    ∙ sym (tweakeys_in_lem a.k a.h c.key_before.result)
+    ∙ ap (tweakeys_in a.k a.h) c.key_before.ensures in
+    rw e at (c.loop-i.invariant.1 (rows_of a.x) (c.add-y.ensures ∙ ap (add_rows (rows_of a.x)) t))

@@ -6,12 +6,10 @@ use Rattle.masked.proofs.two_rounds.Goals as goal
 
 pub returns-then-ahead : goal.returns-then-ahead
 returns-then-ahead c =
-    let h = c in
-    let a = h.args in
-    cc (two_ahead (parts a.k) a.s (rows_of a.x) h.constant-first.ensures h.constant-second.ensures c.if-ahead.true)
+    let a = c.args in
+    cc (two_ahead (parts a.k) a.s (rows_of a.x) c.constant-first.ensures c.constant-second.ensures c.if-ahead.true)
 
 pub returns : goal.returns
 returns c =
-    let h = c in
-    let a = h.args in
-    cc (two_back (parts a.k) a.s (rows_of a.x) h.constant-first.ensures h.constant-second.ensures c.if-ahead.false)
+    let a = c.args in
+    cc (two_back (parts a.k) a.s (rows_of a.x) c.constant-first.ensures c.constant-second.ensures c.if-ahead.false)

@@ -6,9 +6,8 @@ use Rattle.runs.proofs.block_ahead.Goals as goal
 
 pub returns : goal.returns
 returns c =
-    let h = c in
-    let a = h.args in
+    let a = c.args in
     c.store.ensures
-    ∙ ahead_is a.k a.s a.n a.first a.key a.tweak a.block h.schedule_of-h.result (tweakeys_held h.schedule_of-h.ensures)
-    h.load.ensures h.load-2.ensures c.tweakey.ensures
+    ∙ ahead_is a.k a.s a.n a.first a.key a.tweak a.block c.schedule_of-h.result (tweakeys_held c.schedule_of-h.ensures)
+    c.load.ensures c.load-2.ensures c.tweakey.ensures
     c.load-3.ensures c.added-x.ensures c.steps-y.ensures

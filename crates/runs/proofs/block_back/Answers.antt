@@ -6,9 +6,8 @@ use Rattle.runs.proofs.block_back.Goals as goal
 
 pub returns : goal.returns
 returns c =
-    let h = c in
-    let a = h.args in
+    let a = c.args in
     c.store.ensures
-    ∙ back_is a.k a.s a.n a.last a.key a.tweak a.block h.schedule_of-h.result (tweakeys_held h.schedule_of-h.ensures)
-    h.load.ensures h.load-2.ensures c.tweakey.ensures
+    ∙ back_is a.k a.s a.n a.last a.key a.tweak a.block c.schedule_of-h.result (tweakeys_held c.schedule_of-h.ensures)
+    c.load.ensures c.load-2.ensures c.tweakey.ensures
     c.load-3.ensures c.steps_back-x.ensures c.added-y.ensures

@@ -12,10 +12,9 @@ use Rattle.steps.proofs.round.Goals as goal
 
 pub returns : goal.returns
 returns c =
-    let h = c in
-    let p = parts h.args.k in
-    let x : List ℕ = Sbox.layer p.sbox h.args.w in
-    let r : Rows (add_constant h.args.c x) = constant_rows h.args.c h.ranges.c.fits x (sboxes.sbox_rows p.sbox h.args.w) in
-    let z : c.add_constant-z.result ≡ add_constant h.args.c x =
-    c.add_constant-z.ensures ∙ ap (add_constant h.args.c) c.sbox_layer-y.ensures in
-    c.lbox_layer.ensures ∙ rw z (layer_is p.lbox h.args.low.now h.args.high.now (add_constant h.args.c x) h.requires.0 h.requires.1 r.words)
+    let p = parts c.args.k in
+    let x : List ℕ = Sbox.layer p.sbox c.args.w in
+    let r : Rows (add_constant c.args.c x) = constant_rows c.args.c c.ranges.c.fits x (sboxes.sbox_rows p.sbox c.args.w) in
+    let z : c.add_constant-z.result ≡ add_constant c.args.c x =
+    c.add_constant-z.ensures ∙ ap (add_constant c.args.c) c.sbox_layer-y.ensures in
+    c.lbox_layer.ensures ∙ rw z (layer_is p.lbox c.args.low.now c.args.high.now (add_constant c.args.c x) c.requires.0 c.requires.1 r.words)

@@ -12,9 +12,8 @@ use Rattle.steps.proofs.round_back.Goals as goal
 
 pub returns : goal.returns
 returns c =
-    let h = c in
-    let p = parts h.args.k in
-    let words : (i : ℕ) → get_or h.args.w i 0 < 2 ^ 16 = λ i. let f : Fits w16 (get_or h.args.w i 0) = search rules in f.fits in
+    let p = parts c.args.k in
+    let words : (i : ℕ) → get_or c.args.w i 0 < 2 ^ 16 = λ i. let f : Fits w16 (get_or c.args.w i 0) = search rules in f.fits in
     let y = c.lbox_layer_back-y.ensures
-    ∙ layer_is p.lbox_inverse h.args.low.now h.args.high.now h.args.w h.requires.0 h.requires.1 words in
-    c.sbox_layer_back.ensures ∙ ap (Sbox.layer p.sbox_inverse) (c.add_constant-z.ensures ∙ ap (add_constant h.args.c) y)
+    ∙ layer_is p.lbox_inverse c.args.low.now c.args.high.now c.args.w c.requires.0 c.requires.1 words in
+    c.sbox_layer_back.ensures ∙ ap (Sbox.layer p.sbox_inverse) (c.add_constant-z.ensures ∙ ap (add_constant c.args.c) y)

@@ -19,15 +19,14 @@ loop-i-init c =
 
 pub loop-i-preserved : goal.loop-i-preserved
 loop-i-preserved c =
-    let h = c in
-    let a = h.args in
+    let a = c.args in
     let q = parts a.k in
-    let n = a.s + h.loop-i.i in
+    let n = a.s + c.loop-i.i in
     let w = c.two_rounds-w.ensures
-    ∙ ap (λ (l : List ℕ). round q (2 * n + 2) (round q (2 * n + 1) l)) (c.rows_of.ensures ∙ h.loop-i.invariant.1) in
+    ∙ ap (λ (l : List ℕ). round q (2 * n + 2) (round q (2 * n + 1) l)) (c.rows_of.ensures ∙ c.loop-i.invariant.1) in
     let u = ap rows_of c.tweakey.ensures ∙ sym (tweakeys_in_lem a.k a.h (n + 1)) in (
       omega arith,
       c.add-z.ensures
           ∙ (λ j. add_rows ((c.state_of.ensures ∙ w) j) (u j))
-          ∙ steps_next q (tweakeys_in a.k a.h) a.s h.loop-i.i (rows_of a.x),
+          ∙ steps_next q (tweakeys_in a.k a.h) a.s c.loop-i.i (rows_of a.x),
     )

@@ -13,18 +13,17 @@ use Rattle.steps.proofs.steps_back.Goals as goal
 
 pub loop-i-preserved : goal.loop-i-preserved
 loop-i-preserved c =
-    let h = c in
-    let a = h.args in
+    let a = c.args in
     let q = parts a.k in
     let tk = tweakeys_in a.k a.h in
-    let m = h.loop-i.i - 1 in
-    let u = ap rows_of c.tweakey.ensures ∙ sym (tweakeys_in_lem a.k a.h (a.s + h.loop-i.i)) in
-    let z = c.rows_of.ensures ∙ c.add-z.ensures ∙ ap (add_rows (rows_of h.loop-i.y)) u in
+    let m = c.loop-i.i - 1 in
+    let u = ap rows_of c.tweakey.ensures ∙ sym (tweakeys_in_lem a.k a.h (a.s + c.loop-i.i)) in
+    let z = c.rows_of.ensures ∙ c.add-z.ensures ∙ ap (add_rows (rows_of c.loop-i.y)) u in
     let w = c.two_rounds_back-w.ensures ∙ ap (λ (l : List ℕ). unround q (2 * (a.s + m) + 1) (unround q (2 * (a.s + m) + 2) l)) z in (
       omega arith,
       ap (unsteps q tk a.s m) (c.state_of-v.ensures ∙ w)
-          ∙ unsteps_next q tk a.s h.loop-i.i (rows_of h.loop-i.y) (omega arith)
-          ∙ h.loop-i.invariant.1,
+          ∙ unsteps_next q tk a.s c.loop-i.i (rows_of c.loop-i.y) (omega arith)
+          ∙ c.loop-i.invariant.1,
     )
 
 pub returns : goal.returns

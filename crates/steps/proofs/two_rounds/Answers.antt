@@ -17,15 +17,14 @@ loop-p-init c =
 
 pub loop-p-preserved : goal.loop-p-preserved
 loop-p-preserved c =
-    let h = c in
-    let a = h.args in
-    let v = constant_at a.c.now h.requires.tables.constants_are (2 * a.s + h.loop-p.p + 1) (omega arith) in
+    let a = c.args in
+    let v = constant_at a.c.now c.requires.tables.constants_are (2 * a.s + c.loop-p.p + 1) (omega arith) in
     let q = parts a.k in
     let r = c.wide.result in (
       omega arith,
       c.round-y.ensures
-          ∙ ap (λ (x : List ℕ). Lbox.layer q.lbox (add_constant r (Sbox.layer q.sbox x))) h.loop-p.invariant.1
-          ∙ turn q a.s h.loop-p.p a.w r (c.wide.ensures ∙ v),
+          ∙ ap (λ (x : List ℕ). Lbox.layer q.lbox (add_constant r (Sbox.layer q.sbox x))) c.loop-p.invariant.1
+          ∙ turn q a.s c.loop-p.p a.w r (c.wide.ensures ∙ v),
     )
 
 pub returns : goal.returns

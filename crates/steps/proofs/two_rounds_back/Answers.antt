@@ -8,14 +8,13 @@ use Rattle.steps.proofs.two_rounds_back.Goals as goal
 
 pub loop-p-preserved : goal.loop-p-preserved
 loop-p-preserved c =
-    let h = c in
-    let a = h.args in
-    let v = constant_at a.c.now h.requires.tables.constants_are (2 * a.s + (h.loop-p.p - 1) + 1) (omega arith) in
+    let a = c.args in
+    let v = constant_at a.c.now c.requires.tables.constants_are (2 * a.s + (c.loop-p.p - 1) + 1) (omega arith) in
     let q = parts a.k in (
       omega arith,
-      ap (unturns q a.s (h.loop-p.p - 1)) c.round_back-y.ensures
-          ∙ unturn q a.s h.loop-p.p h.loop-p.x c.wide.result (omega arith) (c.wide.ensures ∙ v)
-          ∙ h.loop-p.invariant.1,
+      ap (unturns q a.s (c.loop-p.p - 1)) c.round_back-y.ensures
+          ∙ unturn q a.s c.loop-p.p c.loop-p.x c.wide.result (omega arith) (c.wide.ensures ∙ v)
+          ∙ c.loop-p.invariant.1,
     )
 
 pub returns : goal.returns

@@ -11,20 +11,16 @@ use Rattle.cipher.proofs.block.look_up_ahead.Goals as goal
 pub returns-then-not-is_listed : goal.returns-then-not-is_listed
 unfolding enciphered_blocks
 returns-then-not-is_listed c =
-    let h = c in
-    let a = h.args in
+    let a = c.args in
     let s = a.suite in
     unlisted_run (λ k n. ahead_block k 0 n true) encipher encipher_run s.cipher s.steps a.key a.tweaks.now a.blocks.now
-    (sym h.is_listed.ensures ∙ c.if-not-is_listed.true)
+    (sym c.is_listed.ensures ∙ c.if-not-is_listed.true)
 
 pub returns : goal.returns
 unfolding enciphered_blocks
 returns c =
-    let k = c in
-    let l = k in
-    let h = l in
-    let a = h.args in
+    let a = c.args in
     let s = a.suite in
     listed_run (λ k n. ahead_block k 0 n true) encipher encipher_run s.cipher s.steps a.key a.tweaks.now a.blocks.now
-    (sym h.is_listed.ensures ∙ l.if-not-is_listed.false)
-    k.cipher_of.ensures c.run_ahead.ensures
+    (sym c.is_listed.ensures ∙ c.if-not-is_listed.false)
+    c.cipher_of.ensures c.run_ahead.ensures

@@ -11,20 +11,16 @@ use Rattle.cipher.proofs.block.look_up_back.Goals as goal
 pub returns-then-not-is_listed : goal.returns-then-not-is_listed
 unfolding deciphered_blocks
 returns-then-not-is_listed c =
-    let h = c in
-    let a = h.args in
+    let a = c.args in
     let s = a.suite in
     unlisted_run (λ k n. back_block k 0 n true) decipher decipher_run s.cipher s.steps a.key a.tweaks.now a.blocks.now
-    (sym h.is_listed.ensures ∙ c.if-not-is_listed.true)
+    (sym c.is_listed.ensures ∙ c.if-not-is_listed.true)
 
 pub returns : goal.returns
 unfolding deciphered_blocks
 returns c =
-    let k = c in
-    let l = k in
-    let h = l in
-    let a = h.args in
+    let a = c.args in
     let s = a.suite in
     listed_run (λ k n. back_block k 0 n true) decipher decipher_run s.cipher s.steps a.key a.tweaks.now a.blocks.now
-    (sym h.is_listed.ensures ∙ l.if-not-is_listed.false)
-    k.cipher_of.ensures c.run_back.ensures
+    (sym c.is_listed.ensures ∙ c.if-not-is_listed.false)
+    c.cipher_of.ensures c.run_back.ensures

@@ -8,20 +8,16 @@ use Rattle.cipher.proofs.blocks.encipher_blocks.Goals as goal
 pub returns-then-not-is_listed : goal.returns-then-not-is_listed
 unfolding enciphered_blocks
 returns-then-not-is_listed c =
-    let h = c in
-    let a = h.args in
+    let a = c.args in
     let s = a.suite in
     unlisted_run encipher encipher (λ c n key t b. refl) s.cipher s.steps a.key a.tweaks.now a.blocks.now
-    (sym h.is_listed.ensures ∙ c.if-not-is_listed.true)
+    (sym c.is_listed.ensures ∙ c.if-not-is_listed.true)
 
 pub returns : goal.returns
 unfolding enciphered_blocks
 returns c =
-    let k = c in
-    let l = k in
-    let h = l in
-    let a = h.args in
+    let a = c.args in
     let s = a.suite in
     listed_many encipher encipher (λ c n key t b. refl) s.cipher s.steps a.key a.tweaks.now a.blocks.now
-    (sym h.is_listed.ensures ∙ l.if-not-is_listed.false)
-    k.cipher_of.ensures c.all.ensures
+    (sym c.is_listed.ensures ∙ c.if-not-is_listed.false)
+    c.cipher_of.ensures c.all.ensures

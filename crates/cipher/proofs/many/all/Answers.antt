@@ -7,8 +7,7 @@ use Rattle.cipher.proofs.many.all.Goals as goal
 
 pub returns : goal.returns
 returns c =
-    let h = c in
-    let a = h.args in
+    let a = c.args in
     all_done (ciphered a.ahead a.k a.n a.key) (ciphered_blockwise a.ahead a.k a.n a.key) a.tweaks.now a.blocks.now
-    h.in_groups-g.result (omega (arith, h.in_groups-g.ensures, h.whole.ensures))
+    c.in_groups-g.result (omega (arith, c.in_groups-g.ensures, c.whole.ensures))
     c.first.ensures c.all-2.ensures

@@ -5,5 +5,4 @@ use Rattle.tables.proofs.scream.row.Goals as goal
 
 pub returns : goal.returns
 returns c =
-    let h = c in
-    cc (by_bytes Lbox.scream h.args.x h.ranges.x.fits)
+    cc (by_bytes Lbox.scream c.args.x c.ranges.x.fits)

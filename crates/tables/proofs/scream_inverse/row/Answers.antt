@@ -5,5 +5,4 @@ use Rattle.tables.proofs.scream_inverse.row.Goals as goal
 
 pub returns : goal.returns
 returns c =
-    let h = c in
-    cc (by_bytes Lbox.scream_inverse h.args.x h.ranges.x.fits)
+    cc (by_bytes Lbox.scream_inverse c.args.x c.ranges.x.fits)
