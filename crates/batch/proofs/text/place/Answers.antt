@@ -1,10 +1,9 @@
 -- The outcomes are copied, and the last one is added.
-use mathlib.Core.Path.{◌≡◌, sym, ap, ◌∙◌}
+use mathlib.Core.Path.{◌≡◌, ap, ◌∙◌}
 use mathlib.Core.List.{List, ◌++◌, append-nil}
 use Prim.Native.Nat.{ℕ, ◌-◌, ◌*◌, ◌/◌}
 use native.Mathlib.Omega.{arith}
-use borrow.Author.Rules.{rules}
-use lib.ListN.{length, take, drop, length-take, drop_of_length-le}
+use lib.ListN.{length, take, drop, drop_of_length-le}
 use lib.Seq.{take_at, drop_at, length-take-le}
 use Rattle.bits.specs.Bytes.{added}
 use Rattle.bits.proofs.Lists.{part_rest}
@@ -12,24 +11,23 @@ use Rattle.blockwise.specs.Blocks.{block, strung}
 use Rattle.sums.proofs.Sums.{part_none}
 use Rattle.batch.proofs.Put.{front_strung}
 use Rattle.batch.proofs.Texts.{placed_none, placed_is}
-use Rattle.batch.proofs.text.place.Statement.{statement}
-use Rattle.batch.proofs.text.place.Tie as tie
+use Rattle.batch.proofs.text.place.Goals as goal
 
-returns : tie.Need-returns
+pub returns-then-n-eq0 : goal.returns-then-n-eq0
+returns-then-n-eq0 c =
+    let a = c.args in
+    placed_none a.m a.first.0 a.s.now a.outcomes.now c.if-n-eq0.true
+
+pub returns : goal.returns
 returns c =
-    let a = c.before.before.before.args in
-    placed_none a.m a.first.0 a.s.now a.outcomes.now c.if1.true
-
-returns-2 : tie.Need-returns-2
-returns-2 c =
-    let h = c.before.before.before.before.before.before.before in
-    let p = h.before.before.before.before.before.before in
+    let h = c in
+    let p = h in
     let a = p.args in
     let s = a.s.now in
     let o = a.outcomes.now in
     let k = (length s - 1) / 16 in
     let at = 16 * k in
-    let R = h.copy.new.1.0 in
+    let R = h.copy.new.d in
     let long : length (take at s) ≡ at = length-take-le at s (omega arith) in
     let made : R ≡ take at o =
     h.copy.ensures
@@ -38,27 +36,8 @@ returns-2 c =
     let lr : length R ≡ at = ap length made ∙ length-take-le at o (omega arith) in
     let W = R ++ drop at s in
     let left : take (length W - at) (drop at W) ≡ drop at s = part_rest at W ∙ drop_at R (drop at s) at lr in
-    let new : c.before.before.add-to.new.0 ≡ added (drop at s) (block o k) =
-    c.before.before.add-to.ensures ∙ (λ j. added (left j) (c.before.before.before.block_at.ensures j)) in
+    let new : c.add_to.new.d ≡ added (drop at s) (block o k) =
+    c.add_to.ensures ∙ (λ j. added (left j) (c.block_at.ensures j)) in
     (λ j. (take_at R (drop at s) at lr ∙ made ∙ front_strung k o (omega arith)) j ++ (new j ++ part_none at W j))
     ∙ ap (λ (l : List ℕ). strung k (block o) ++ l) (append-nil (added (drop at s) (block o k)))
     ∙ placed_is a.m a.first.0 s p.requires.0 k (omega arith) o
-
-pub place-spec : {M : Type 1} → statement M
-place-spec =
-    tie.close
-    (tie.spec
-    returns
-    (λ c. search rules)
-    (λ c. search rules)
-    (λ c. sym (length-take-le _ _ (omega arith)))
-    (λ c. search rules)
-    (λ c. sym (length-take-le _ _ (omega arith)))
-    (λ c κs. rw (length-take, length-take) (omega arith))
-    (λ c. search rules)
-    (λ c. search rules)
-    (λ c. search rules)
-    (λ c κs. search rules)
-    (λ c κs. search rules)
-    (λ c. search rules)
-    returns-2)

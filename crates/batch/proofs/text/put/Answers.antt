@@ -1,0 +1,37 @@
+-- The tweaks and the blocks of what is not last, and then the last one's.
+use mathlib.Core.Path.{◌≡◌, sym, ap, ◌∙◌}
+use mathlib.Core.List.{List}
+use Prim.Native.Nat.{ℕ, ◌-◌, ◌*◌, ◌/◌}
+use native.Mathlib.Omega.{arith}
+use lib.ListN.{length}
+use lib.Seq.{paste}
+use Rattle.calls.specs.Tweak.{special_tweak, blocks_of}
+use Rattle.batch.specs.Batch.{put_first}
+use Rattle.batch.proofs.Put.{put_none}
+use Rattle.batch.proofs.Texts.{text_tweaks_put, text_blocks_put}
+use Rattle.batch.proofs.text.put.Goals as goal
+
+pub returns-then-n-eq0 : goal.returns-then-n-eq0
+returns-then-n-eq0 c =
+    let a = c.args in
+    let none : (g : ℕ → List ℕ) (buffer : List ℕ) → buffer ≡ put_first (blocks_of (length a.s.now)) g buffer =
+    λ g buffer. put_none g buffer ∙ ap (λ (n : ℕ). put_first (blocks_of n) g buffer) (sym c.if-n-eq0.true) in
+    (none _ a.tweaks.now, none _ a.blocks.now)
+
+pub returns : goal.returns
+returns c =
+    let copied = c in
+    let put = copied in
+    let made = put in
+    let p = made in
+    let a = p.args in
+    let s = a.s.now in
+    let n = (length s - 1) / 16 in
+    let tweak = put.special_tweak.ensures ∙ ap (special_tweak a.nonce.now) put.last_text_mark.ensures in (
+      put.put_at.ensures
+          ∙ (λ j. paste (made.text_tweaks.ensures j) (16 * n) (tweak j) 16)
+          ∙ text_tweaks_put a.m a.first.0 s p.requires.2 n (omega arith) a.nonce.now p.requires.0 a.tweaks.now,
+      c.put_at-2.ensures
+          ∙ (λ j. paste (copied.copy.ensures j) (16 * n) (c.length_block.ensures j) 16)
+          ∙ text_blocks_put a.m a.first.0 s p.requires.2 n (omega arith) a.blocks.now,
+    )
