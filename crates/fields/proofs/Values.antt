@@ -1,10 +1,9 @@
 -- Laws of fields whose value has n bytes, and of the code that looks for one.
 use mathlib.Core.Path.{◌≡◌, sym, ap, ◌∙◌}
-use mathlib.Core.Bool.{Bool, true, false, not}
+use mathlib.Core.Bool.{Bool, true, false}
 use mathlib.Core.List.{List, ◌++◌}
 use Prim.Native.Nat.{ℕ, ◌+◌, ◌-◌, ◌<◌}
 use native.Mathlib.Omega.{arith}
-use borrow.Author.Tests.{not-true, not-false}
 use lib.ListN.{length, take, drop, length-drop}
 use lib.Seq.{take_all}
 use Rattle.bits.specs.Bytes.{Bytes}
@@ -43,11 +42,11 @@ length_after tag n s has = rw length-drop (omega (arith, field_told tag n s has)
 
 -- the code has a test's answer r, and asks whether it is false
 module _ {r t : Bool} (e : r ≡ t) where
-  pub found : not r ≡ false → t ≡ true
-  found h = sym e ∙ not-false r h
+  pub found : r ≡ true → t ≡ true
+  found h = sym e ∙ h
 
-  pub missed : not r ≡ true → t ≡ false
-  missed h = sym e ∙ not-true r h
+  pub missed : r ≡ false → t ≡ false
+  missed h = sym e ∙ h
 
 -- the part of a string that follows a field
 pub after_is : (n : ℕ) (s : List ℕ) → take (length s - (3 + n)) (drop (3 + n) s) ≡ after_field n s
