@@ -9,7 +9,7 @@ ghost use Rattle.check_book.specs.Line.{answer_line, line};
 ghost use Rattle.check_book.specs.Behind.{Behind};
 
 use checker::check::CheckAnswer;
-use libc::{STDIN_FILENO, STDOUT_FILENO};
+use std::io;
 use suites::refusal::Refusal;
 
 // Bytes put at a place of an output: the place behind them.
@@ -84,11 +84,11 @@ fn line(input: &[u8], out: &mut [u8; 64]) -> usize
     answer_line(checked(input), out)
 }
 
-fn main() {
+fn main(rt: HostRuntime) -> io::Result<()> {
     // 16 bytes longer than the longest key and book that are read
-    let mut buf = io::large_buffer();
-    let n = io::read_full(STDIN_FILENO, &mut buf);
+    let mut buf = input::large_buffer();
+    let n = input::read_full(&mut rt.reader(), &mut buf);
     let mut out = [0u8; 64];
     let len = line(&buf[..n], &mut out);
-    io::write_all(STDOUT_FILENO, &out[..len]);
+    rt.write_all(&out[..len])
 }

@@ -2,24 +2,24 @@
 // written from the buffer that the book was read into.
 #![tactic(auto)]
 
-use libc::STDIN_FILENO;
+use std::io;
 
-fn line(part: &[u8]) {
-    report::number(part.len() as u64);
-    report::text(b" ");
-    report::text(part);
-    report::text(b"\n");
+fn line(rt: &impl Print, part: &[u8]) -> io::Result<()> {
+    report::number(rt, part.len() as u64)?;
+    report::text(rt, b" ")?;
+    report::text(rt, part)?;
+    report::text(rt, b"\n")
 }
 
-fn lines(book: &[u8]) {
-    line(walk::ciphertext::ciphertext(book, 0));
-    line(walk::ciphertext::ciphertext(book, 1));
-    line(walk::ciphertext::ciphertext(book, 2));
-    line(walk::ciphertext::ciphertext(book, 3));
+fn lines(rt: &impl Print, book: &[u8]) -> io::Result<()> {
+    line(rt, walk::ciphertext::ciphertext(book, 0))?;
+    line(rt, walk::ciphertext::ciphertext(book, 1))?;
+    line(rt, walk::ciphertext::ciphertext(book, 2))?;
+    line(rt, walk::ciphertext::ciphertext(book, 3))
 }
 
-fn main() {
-    let mut buf = io::large_buffer();
-    let n = io::read_full(STDIN_FILENO, &mut buf);
-    lines(&buf[..n]);
+fn main(rt: HostRuntime) -> io::Result<()> {
+    let mut buf = input::large_buffer();
+    let n = input::read_full(&mut rt.reader(), &mut buf);
+    lines(&rt, &buf[..n])
 }

@@ -1,21 +1,18 @@
 // Prints the fifteen tables, made from the matrices and bit equations: 240 lines.
 #![tactic(auto)]
 
-use libc::{STDERR_FILENO, STDOUT_FILENO};
+use std::io;
 
-fn main() {
+fn main(rt: HostRuntime) -> io::Result<()> {
     let mut table = [0u8; 256];
     let mut text = [0u8; 768];
     let mut place: usize = 0;
     while made_tables::make(place, &mut table) {
         table_text::put(&table, &mut text);
-        if !io::write_all(STDOUT_FILENO, &text) {
-            io::write_all(
-                STDERR_FILENO,
-                b"print_tables: not all tables could be written\n",
-            );
-            return;
+        if rt.write_all(&text).is_err() {
+            return eprintln!(rt; "print_tables: not all tables could be written");
         }
         place += 1;
     }
+    Ok(())
 }

@@ -1,20 +1,20 @@
 // What the programs vectors, known and ciphertext_part write to standard output.
 #![tactic(auto)]
 
-use libc::STDOUT_FILENO;
+use std::io;
 use suites::refusal::Refusal;
 
-pub fn text(s: &[u8]) {
-    io::write_all(STDOUT_FILENO, s);
+pub fn text(rt: &impl Print, s: &[u8]) -> io::Result<()> {
+    rt.write_all(s)
 }
 
 // A number in decimal digits.
-pub fn number(n: u64) {
-    io::print_decimal(STDOUT_FILENO, n);
+pub fn number(rt: &impl Print, n: u64) -> io::Result<()> {
+    print!(rt; "{n}")
 }
 
 // A refusal by its number.
-pub fn refusal(why: Refusal) {
-    text(b"refused:");
-    number(why.number() as u64);
+pub fn refusal(rt: &impl Print, why: Refusal) -> io::Result<()> {
+    text(rt, b"refused:")?;
+    number(rt, why.number() as u64)
 }

@@ -3,13 +3,15 @@
 #![tactic(auto)]
 
 ghost use Rattle.std.specs.Prelude.{◌≡◌, ◌<◌, ◌≤◌, length};
-ghost use Rattle.io.specs.Counts.{IsPrefixLen};
+ghost use Rattle.std.specs.Counts.{IsPrefixLen};
 
 use checker::check::CheckAnswer;
 use fetch::unit::FetchAnswer;
 use opening::open::OpenAnswer;
 use page::PageAnswer;
 use sealing::seal::SealAnswer;
+use std::rt::Files;
+use std::{fs, io};
 use suites::suite::Suite;
 use verifying::verify::VerifyAnswer;
 
@@ -98,24 +100,25 @@ fn hex(n: u8) -> u8
     if n < 10 { n + 48 } else { n + 55 }
 }
 
-fn write_byte(b: u8) {
-    report::text(&[hex(b / 16 % 16), hex(b % 16)]);
+fn write_byte(rt: &impl Print, b: u8) -> io::Result<()> {
+    report::text(rt, &[hex(b / 16 % 16), hex(b % 16)])
 }
 
 // The first n bytes in digits, or `-` for none.
-fn write_bytes(b: &[u8], n: usize) {
+fn write_bytes(rt: &impl Print, b: &[u8], n: usize) -> io::Result<()> {
     if n == 0 {
-        report::text(b"-");
+        report::text(rt, b"-")?;
     }
     let mut i: usize = 0;
     while i < n {
-        write_byte(get(b, i));
+        write_byte(rt, get(b, i))?;
         i += 1;
     }
+    Ok(())
 }
 
-fn write_block(b: [u8; 16]) {
-    write_bytes(&b, 16);
+fn write_block(rt: &impl Print, b: [u8; 16]) -> io::Result<()> {
+    write_bytes(rt, &b, 16)
 }
 
 // The place behind the next `stop`, or the end.
@@ -134,7 +137,7 @@ fn behind(s: &[u8], at: usize, stop: u8) -> usize
 }
 
 // Key, tweak, block and the block enciphered: what enciphering the block gives, and what deciphering the other one gives.
-fn run_cipher(suite: Suite, s: &[u8], at: usize)
+fn run_cipher(rt: &impl Print, suite: Suite, s: &[u8], at: usize) -> io::Result<()>
     requires { (at ≤ length s.now)
         × (length s.now ≤ 262144) }
 {
@@ -147,68 +150,96 @@ fn run_cipher(suite: Suite, s: &[u8], at: usize)
     let deciphered = cipher::block::decipher(suite, key, tweak, block_at(s, c));
     let e = enciphered.block;
     let d = deciphered.block;
-    write_block(e);
-    report::text(b" ");
-    write_block(d);
+    write_block(rt, e)?;
+    report::text(rt, b" ")?;
+    write_block(rt, d)
 }
 
 // The sealed bytes and the number of cipher calls.
-fn run_seal(suite: Suite, key: &[u8], nonce: &[u8], header: &[u8], text: &[u8]) {
+fn run_seal(
+    rt: &impl Print,
+    suite: Suite,
+    key: &[u8],
+    nonce: &[u8],
+    header: &[u8],
+    text: &[u8],
+) -> io::Result<()> {
     let mut out = text_room();
     match sealing::seal::seal(suite, key, nonce, header, text, &mut out) {
         SealAnswer::Sealed(n, calls) => {
-            write_bytes(&out, n);
-            report::text(b" ");
-            report::number(calls as u64);
+            write_bytes(rt, &out, n)?;
+            report::text(rt, b" ")?;
+            report::number(rt, calls as u64)
         }
-        SealAnswer::Refused(why) => report::refusal(why),
+        SealAnswer::Refused(why) => report::refusal(rt, why),
     }
 }
 
 // The text's first two bytes, with ciphertext and tag apart; `-` where there is no tag.
-fn run_verify(suite: Suite, key: &[u8], nonce: &[u8], header: &[u8], sealed: &[u8]) {
+fn run_verify(
+    rt: &impl Print,
+    suite: Suite,
+    key: &[u8],
+    nonce: &[u8],
+    header: &[u8],
+    sealed: &[u8],
+) -> io::Result<()> {
     if sealed.len() < 16 {
-        report::text(b"-");
-        return;
+        return report::text(rt, b"-");
     }
     let m = sealed.len() - 16;
     let tag = blockwise::block_at(sealed, m);
     match verifying::verify::verify_apart(suite, key, nonce, header, &sealed[..m], tag) {
         VerifyAnswer::Agrees(first, second) => {
-            write_byte(first);
-            write_byte(second);
+            write_byte(rt, first)?;
+            write_byte(rt, second)
         }
-        VerifyAnswer::Refused(why) => report::refusal(why),
+        VerifyAnswer::Refused(why) => report::refusal(rt, why),
     }
 }
 
 // The text.
-fn run_open(suite: Suite, key: &[u8], nonce: &[u8], header: &[u8], sealed: &[u8]) {
+fn run_open(
+    rt: &impl Print,
+    suite: Suite,
+    key: &[u8],
+    nonce: &[u8],
+    header: &[u8],
+    sealed: &[u8],
+) -> io::Result<()> {
     let mut out = text_room();
     match opening::open::open(suite, key, nonce, header, sealed, &mut out) {
-        OpenAnswer::Opened(n) => write_bytes(&out, n),
-        OpenAnswer::Refused(why) => report::refusal(why),
+        OpenAnswer::Opened(n) => write_bytes(rt, &out, n),
+        OpenAnswer::Refused(why) => report::refusal(rt, why),
     }
 }
 
-fn run_input(sealing: bool, suite: Suite, key: &[u8], nonce: &[u8], header: &[u8], input: &[u8]) {
+fn run_input(
+    rt: &impl Print,
+    sealing: bool,
+    suite: Suite,
+    key: &[u8],
+    nonce: &[u8],
+    header: &[u8],
+    input: &[u8],
+) -> io::Result<()> {
     if sealing {
-        run_seal(suite, key, nonce, header, input);
+        run_seal(rt, suite, key, nonce, header, input)
     } else {
-        run_open(suite, key, nonce, header, input);
-        report::text(b" ");
-        run_verify(suite, key, nonce, header, input);
+        run_open(rt, suite, key, nonce, header, input)?;
+        report::text(rt, b" ")?;
+        run_verify(rt, suite, key, nonce, header, input)
     }
 }
 
 // Key, nonce, header, and the text that is sealed or the sealed bytes that are opened.
-fn run_tae(sealing: bool, suite: Suite, s: &[u8], at: usize)
+fn run_tae(rt: &impl Print, sealing: bool, suite: Suite, s: &[u8], at: usize) -> io::Result<()>
     requires { (at ≤ length s.now)
         × (length s.now ≤ 262144) }
 {
     let mut key = [0u8; 32];
     let mut nonce = [0u8; 32];
-    let mut header = io::buffer();
+    let mut header = input::buffer();
     let mut input = text_room();
     let k = decode(s, at, &mut key);
     let at_nonce = behind(s, at, b' ');
@@ -218,17 +249,18 @@ fn run_tae(sealing: bool, suite: Suite, s: &[u8], at: usize)
     let at_input = behind(s, at_header, b' ');
     let m = decode(s, at_input, &mut input);
     run_input(
+        rt,
         sealing,
         suite,
         &key[..k],
         &nonce[..n],
         &header[..a],
         &input[..m],
-    );
+    )
 }
 
 // Key and book: the unit count and the call total.
-fn run_check(s: &[u8], at: usize)
+fn run_check(rt: &impl Print, s: &[u8], at: usize) -> io::Result<()>
     requires { (at ≤ length s.now)
         × (length s.now ≤ 262144) }
 {
@@ -239,12 +271,12 @@ fn run_check(s: &[u8], at: usize)
     let n = decode(s, at_book, &mut book);
     match checker::check::check(&key[..k], &book[..n]) {
         CheckAnswer::Accepted(units, calls) => {
-            report::text(b"ok:");
-            report::number(units);
-            report::text(b":");
-            report::number(calls);
+            report::text(rt, b"ok:")?;
+            report::number(rt, units)?;
+            report::text(rt, b":")?;
+            report::number(rt, calls)
         }
-        CheckAnswer::Refused(why) => report::refusal(why),
+        CheckAnswer::Refused(why) => report::refusal(rt, why),
     }
 }
 
@@ -292,36 +324,43 @@ fn long_number_at(s: &[u8], at: usize) -> u64
 }
 
 // Source and target of unit k, fetched into a buffer.
-fn write_fetched(key: &[u8], book: &[u8], k: u64, out: &mut [u8]) {
+fn write_fetched(
+    rt: &impl Print,
+    key: &[u8],
+    book: &[u8],
+    k: u64,
+    out: &mut [u8],
+) -> io::Result<()> {
     match fetch::unit::fetch(key, book, k, out) {
         FetchAnswer::Fetched(s, t) => {
             let n = out.len();
-            write_bytes(out, s);
-            report::text(b":");
+            write_bytes(rt, out, s)?;
+            report::text(rt, b":")?;
             if s <= n {
-                write_bytes(&out[s..], t);
+                write_bytes(rt, &out[s..], t)?;
             }
+            Ok(())
         }
-        FetchAnswer::Refused(why) => report::refusal(why),
+        FetchAnswer::Refused(why) => report::refusal(rt, why),
     }
 }
 
 // Where the ciphertext of unit k stands in a book, and its length.
-fn write_part(book: &[u8], k: u64) {
+fn write_part(rt: &impl Print, book: &[u8], k: u64) -> io::Result<()> {
     let part = walk::ciphertext::place(book, k);
-    report::text(b" ");
-    report::number(part.at as u64);
-    report::text(b" ");
-    report::number(part.len as u64);
+    report::text(rt, b" ")?;
+    report::number(rt, part.at as u64)?;
+    report::text(rt, b" ")?;
+    report::number(rt, part.len as u64)
 }
 
 // Key, book, a unit's number and how many bytes the output has: source and target, and the ciphertext part.
-fn run_fetch(s: &[u8], at: usize)
+fn run_fetch(rt: &impl Print, s: &[u8], at: usize) -> io::Result<()>
     requires { (at ≤ length s.now)
         × (length s.now ≤ 262144) }
 {
     let mut key = [0u8; 32];
-    let mut book = io::buffer();
+    let mut book = input::buffer();
     let mut out = text_room();
     let k = decode(s, at, &mut key);
     let at_book = behind(s, at, b' ');
@@ -330,26 +369,32 @@ fn run_fetch(s: &[u8], at: usize)
     let number = long_number_at(s, at_number);
     let at_room = behind(s, at_number, b' ');
     let room = number_at(s, at_room, 16384);
-    write_fetched(&key[..k], &book[..n], number, &mut out[..room]);
-    write_part(&book[..n], number);
+    write_fetched(rt, &key[..k], &book[..n], number, &mut out[..room])?;
+    write_part(rt, &book[..n], number)
 }
 
 // The page, made in a buffer.
-fn write_page(key: &[u8], book: &[u8], typed: &[u8], out: &mut [u8]) {
+fn write_page(
+    rt: &impl Print,
+    key: &[u8],
+    book: &[u8],
+    typed: &[u8],
+    out: &mut [u8],
+) -> io::Result<()> {
     match page::page(key, book, typed, out) {
-        PageAnswer::Written(len) => write_bytes(out, len),
-        PageAnswer::Refused(why) => report::refusal(why),
+        PageAnswer::Written(len) => write_bytes(rt, out, len),
+        PageAnswer::Refused(why) => report::refusal(rt, why),
     }
 }
 
 // Key, book, typed sentence and how many bytes the page's buffer has: the page.
-fn run_page(s: &[u8], at: usize)
+fn run_page(rt: &impl Print, s: &[u8], at: usize) -> io::Result<()>
     requires { (at ≤ length s.now)
         × (length s.now ≤ 262144) }
 {
     let mut key = [0u8; 32];
-    let mut book = io::buffer();
-    let mut typed = io::buffer();
+    let mut book = input::buffer();
+    let mut typed = input::buffer();
     let mut out = text_room();
     let k = decode(s, at, &mut key);
     let at_book = behind(s, at, b' ');
@@ -358,70 +403,69 @@ fn run_page(s: &[u8], at: usize)
     let t = decode(s, at_typed, &mut typed);
     let at_room = behind(s, at_typed, b' ');
     let room = number_at(s, at_room, 16384);
-    write_page(&key[..k], &book[..n], &typed[..t], &mut out[..room]);
+    write_page(rt, &key[..k], &book[..n], &typed[..t], &mut out[..room])
 }
 
 // The suite of a case, which is written too.
-fn suite_at(s: &[u8], at: usize) -> Suite
+fn suite_at(rt: &impl Print, s: &[u8], at: usize) -> io::Result<Suite>
     requires { at ≤ 262144 }
 {
     let cipher = byte_at(s, at);
     let steps = byte_at(s, at + 2);
-    write_byte(cipher);
-    write_byte(steps);
-    report::text(b" ");
-    Suite { cipher, steps }
+    write_byte(rt, cipher)?;
+    write_byte(rt, steps)?;
+    report::text(rt, b" ")?;
+    Ok(Suite { cipher, steps })
 }
 
 // One case: the suite, but of a book that is read, and what its file has. Fields have a blank between them.
-fn run_case(kind: Kind, s: &[u8], at: usize)
+fn run_case(rt: &impl Print, kind: Kind, s: &[u8], at: usize) -> io::Result<()>
     requires { (at ≤ length s.now)
         × (length s.now ≤ 262144) }
 {
     let next = behind(s, at, b' ');
     match kind {
-        Kind::Cipher => run_cipher(suite_at(s, at), s, next),
-        Kind::Seal => run_tae(true, suite_at(s, at), s, next),
-        Kind::Open => run_tae(false, suite_at(s, at), s, next),
-        Kind::Check => run_check(s, at),
-        Kind::Fetch => run_fetch(s, at),
-        Kind::Page => run_page(s, at),
+        Kind::Cipher => run_cipher(rt, suite_at(rt, s, at)?, s, next)?,
+        Kind::Seal => run_tae(rt, true, suite_at(rt, s, at)?, s, next)?,
+        Kind::Open => run_tae(rt, false, suite_at(rt, s, at)?, s, next)?,
+        Kind::Check => run_check(rt, s, at)?,
+        Kind::Fetch => run_fetch(rt, s, at)?,
+        Kind::Page => run_page(rt, s, at)?,
     }
-    report::text(b"\n");
+    report::text(rt, b"\n")
 }
 
 // Every line that is no comment is a case.
-fn run_cases(kind: Kind, s: &[u8])
+fn run_cases(rt: &impl Print, kind: Kind, s: &[u8]) -> io::Result<()>
     requires { length s.now ≤ 262144 }
 {
     let mut at: usize = 0;
     while at < s.len() {
         if s[at] != b'#' {
-            run_case(kind, s, at);
+            run_case(rt, kind, s, at)?;
         }
         let next = behind(s, at, b'\n');
         at = next;
     }
+    Ok(())
 }
 
-fn run_file(kind: Kind, path: &[u8]) {
-    let fd = os::open_read(path);
-    if fd < 0 {
-        os::fail(path);
-        return;
-    }
+fn run_file(rt: &(impl Files + Print + Eprint), kind: Kind, path: &str) -> io::Result<()> {
+    let mut file = match fs::open(rt, path) {
+        Ok(file) => file,
+        Err(e) => return eprintln!(rt; "{path}: {e}"),
+    };
     let mut buf = file_room();
-    let n = io::read_full(fd, &mut buf);
-    libc::close(fd);
-    run_cases(kind, &buf[..n]);
+    let n = input::read_full(&mut file, &mut buf);
+    run_cases(rt, kind, &buf[..n])
 }
 
-fn main() {
-    run_file(Kind::Cipher, b"cipher.txt");
-    run_file(Kind::Seal, b"seal.txt");
-    run_file(Kind::Open, b"open.txt");
-    run_file(Kind::Check, b"book.txt");
-    run_file(Kind::Check, b"books.txt");
-    run_file(Kind::Fetch, b"fetch.txt");
-    run_file(Kind::Page, b"page.txt");
+fn main(rt: HostRuntime) -> io::Result<()> {
+    run_file(&rt, Kind::Cipher, "cipher.txt")?;
+    run_file(&rt, Kind::Seal, "seal.txt")?;
+    run_file(&rt, Kind::Open, "open.txt")?;
+    run_file(&rt, Kind::Check, "book.txt")?;
+    run_file(&rt, Kind::Check, "books.txt")?;
+    run_file(&rt, Kind::Fetch, "fetch.txt")?;
+    run_file(&rt, Kind::Page, "page.txt")
 }
