@@ -20,6 +20,6 @@ fn lines(rt: &impl Print, book: &[u8]) -> io::Result<()> {
 
 fn main(rt: HostRuntime) -> io::Result<()> {
     let mut buf = input::large_buffer();
-    let n = input::read_full(&mut rt.reader(), &mut buf);
+    let (n, _) = input::read_full(&mut rt.reader(), &mut buf);
     lines(&rt, &buf[..n])
 }

@@ -456,7 +456,7 @@ fn run_file(rt: &(impl Files + Print + Eprint), kind: Kind, path: &str) -> io::R
         Err(e) => return eprintln!(rt; "{path}: {e}"),
     };
     let mut buf = file_room();
-    let n = input::read_full(&mut file, &mut buf);
+    let (n, _) = input::read_full(&mut file, &mut buf);
     run_cases(rt, kind, &buf[..n])
 }
 
