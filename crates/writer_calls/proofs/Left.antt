@@ -185,7 +185,7 @@ module _ (kind : Kind) (s : Start) where
   unfolding after_calls units has_close sealings
   run-stands {us} {closed} {ss} [] none i = rw (append-nil us, or-false closed, append-nil ss) i
   run-stands {us} {closed} {ss} {e} (c ∷ cs) (more k ks) i =
-      rw (← append_assoc us, ← or_assoc closed, ← append_assoc ss) (run-stands cs ks (call-stands i c k))
+      rw (← append_assoc us, ← or_assoc closed, ← append_assoc ss) (run-stands {us = us ++ by_answer (outcome kind c e) (units_of c) []} cs ks (call-stands i c k))
 
   -- the writer is valid
   stands-valid : WellFormed kind → {us : List BookUnit} {closed : Bool} {ss : List Sealing} {e : State} → Stands us closed ss e
