@@ -11,4 +11,3 @@ pub returns : goal.returns
 returns c =
     let e : c.loop-i.i ≡ 16 = omega arith in
     filled_all (rw e at c.loop-i.invariant.1) ∙ part_at 16 c.args.s.now c.args.at c.requires
-

@@ -17,4 +17,3 @@ loop-i-preserved c =
           ∙ paste-suc a.d.now a.at a.b h.loop-i.i 0 (omega arith) (omega arith)
           ∙ ap (paste a.d.now a.at a.b) (sym (add-one h.loop-i.i)),
     )
-

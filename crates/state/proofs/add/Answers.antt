@@ -8,4 +8,3 @@ pub returns : goal.returns
 returns c =
     let h = c.args in
     add_is h.a h.b (record { low = bit_xor h.a.low h.b.low; high = bit_xor h.a.high h.b.high }) refl refl
-

@@ -9,4 +9,3 @@ pub returns : goal.returns
 unfolding bytes
 returns c =
     sym (bytes_of_rows c.args.w c.well_formed.0.1.0.1)
-

@@ -7,4 +7,3 @@ pub returns : goal.returns
 unfolding rows_of
 returns c =
     cc
-

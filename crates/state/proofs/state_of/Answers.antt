@@ -18,4 +18,3 @@ returns c =
     (digits (get_or w 0 0) (get_or w 1 0) (get_or w 2 0) (get_or w 3 0) (fits 0) (fits 1) (fits 2) (fits 3) c.four.ensures)
     (digits (get_or w 4 0) (get_or w 5 0) (get_or w 6 0) (get_or w 7 0) (fits 4) (fits 5) (fits 6) (fits 7) c.four-2.ensures)
     ∙ tab_get_or 8 w h.well_formed.0.1.0.1
-

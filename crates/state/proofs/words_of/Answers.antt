@@ -21,4 +21,3 @@ returns c =
     ∷ c.word-8.ensures i
     ∷ [])
     ∙ sym (rows_of_block h.args.b h.well_formed.0.1.0.1)
-

@@ -12,4 +12,3 @@ pub returns : goal.returns
 unfolding Sbox.alone bit
 returns c =
     ap (λ (n : ℕ). n ∷ tab 7 (λ i. bit c.args.b (suc i))) (sym (bit_zero c.args.b))
-

@@ -21,4 +21,3 @@ returns c =
     let e1 = c.first_bit-7.ensures.0 in
     let e0 = c.first_bit-8.ensures.0 in
     λ k. ((((((e7 k * 2 + e6 k) * 2 + e5 k) * 2 + e4 k) * 2 + e3 k) * 2 + e2 k) * 2 + e1 k) * 2 + e0 k
-

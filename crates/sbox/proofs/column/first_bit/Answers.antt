@@ -8,4 +8,3 @@ use Rattle.sbox.proofs.column.first_bit.Goals as goal
 pub returns : goal.returns
 returns c =
     (sym (bit_zero c.args.x), omega arith)
-

@@ -13,4 +13,3 @@ pub returns : goal.returns
 returns c =
     circuit_is Sbox.scream_inverse Equations.scream_inverse scream_inverse_right c.args.w
     (λ i. let f : Fits w16 (get_or c.args.w i 0) = search rules in f.fits)
-
