@@ -19,7 +19,7 @@ use Rattle.suites.specs.declared.suite.Suite.{Suite}
 use Rattle.suites.specs.Told.{Told, gives, refuses, told}
 use Rattle.suites.proofs.Numbers.{told_done}
 use Rattle.limits.specs.Tests.{seal_tests, open_tests}
-use Rattle.limits.proofs.Told.{seal_told_lem, open_told}
+use Rattle.limits.proofs.Told.{seal_told_lem, open_told as open_told_lem}
 use Rattle.limits.proofs.Passed.{Openable as Passing, seal_passed, open_passed, open_passes}
 use Rattle.bits.specs.Bytes.{same_bytes}
 use Rattle.text_blocks.specs.Under.{enciphers, deciphers}
@@ -111,7 +111,7 @@ module _ (u : Context) (key-bytes : Bytes u.key) (nonce-bytes : Bytes u.nonce) w
     op =
         told_done (open_tests u.cipher u.steps (length u.key) (length u.nonce) (length u.header) (length s) (length out))
         (ap (λ (r : Told). r.number)
-        (open_told u.cipher u.steps (length u.key) (length u.nonce) (length u.header) (length s) (length out))
+        (open_told_lem u.cipher u.steps (length u.key) (length u.nonce) (length u.header) (length s) (length out))
         ∙ openable)
 
     A : Bool
@@ -190,7 +190,7 @@ module _ (u : Context) (key-bytes : Bytes u.key) (nonce-bytes : Bytes u.nonce) w
       let q = seal_passed u.cipher u.steps (length u.key) (length u.nonce) (length u.header) (length t) (length out) done in
       let l = image_long q.inputs.short t in
       let m : length (image u t) - 16 ≡ length t = omega arith in
-      let room-due = open_told u.cipher u.steps (length u.key) (length u.nonce) (length u.header) (length (image u t)) (length room) in
+      let room-due = open_told_lem u.cipher u.steps (length u.key) (length u.nonce) (length u.header) (length (image u t)) (length room) in
       sym (ap (λ (r : Told). r.number) room-due)
       ∙ ap (λ (a : Answer). (told a).number)
       (open_passes u.cipher u.steps (length u.key) (length u.nonce) (length u.header) (length (image u t)) (length room)
@@ -227,7 +227,7 @@ module _ (u : Context) (key-bytes : Bytes u.key) (nonce-bytes : Bytes u.nonce) w
       open_refused n some (opened u.cipher u.steps u.key u.nonce u.header s) out
       (open_tests u.cipher u.steps (length u.key) (length u.nonce) (length u.header) (length s) (length out))
       (agrees u.cipher u.steps u.key u.nonce u.header s) (length s - 16)
-      (open_told u.cipher u.steps (length u.key) (length u.nonce) (length u.header) (length s) (length out) ∙ e)
+      (open_told_lem u.cipher u.steps (length u.key) (length u.nonce) (length u.header) (length s) (length out) ∙ e)
 
 pub demand2 : Demand2
 demand2 u bk bn =
