@@ -7,33 +7,40 @@ use std::os::unix::fs::{symlink, PermissionsExt};
 use std::path::{Path, PathBuf};
 use std::process::{Command, Output, Stdio};
 
-/// Stands in for rt: prints the file `kit` as its version. Notes its other calls and writes the archive of a
-/// crate, with a member that says what the source was; refuses where there is a file `refused`. What it says
-/// of a crate is the file of its name in `says`: this is put into the log, for a crate that others use only
-/// where its stamp is another.
+/// Stands in for rt: prints the file `kit` as its version. Else it notes what it is asked and the crate whose
+/// folder it is in. What it says of a crate is the file of its name in `says`: of a library that others use,
+/// only where it is another than the one that it was built by, or where it is checked. Of a crate for C it
+/// writes the archive, with a member that says what the source was; refuses where there is a file `refused`.
 const RT: &str = r#"#!/bin/sh
 if [ "$1" = version ]; then cat kit; exit; fi
-echo "$1 $2" >>calls
-if [ -e refused ]; then echo "$2 is not proved"; exit 1; fi
-mkdir -p target/log target/stamp
-for used in bits state; do
-    cmp -s "says/$used" "target/stamp/$used" && continue
-    cp "says/$used" "target/log/$used.say"
-    cp "says/$used" "target/stamp/$used"
-done
-cp "says/$2" "target/log/$2.say"
+name=${PWD##*/}
+cd ../..
+echo "$1 $name" >>calls
+out=crates/$name/out
+mkdir -p "$out"
+case "$1 $name" in
+"lib c_"*) ;;
+"lib "*)
+    cmp -s "says/$name" "$out/built" || cat "says/$name"
+    cp "says/$name" "$out/built"
+    exit
+    ;;
+*) exec cat "says/$name" ;;
+esac
+if [ -e refused ]; then echo "$name is not proved"; exit 1; fi
+cat "says/$name"
 [ ! -e target/busy ] || { echo "another one runs"; exit 1; }
 touch target/busy
 sleep 0.02
-cp crates/c_blocks/source "target/$2.o"
-ar crD "target/staticlib/lib$2.a" "target/$2.o"
-rm "target/$2.o" target/busy
+cp crates/c_blocks/source "target/$name.o"
+ar crD "$out/lib$name.a" "target/$name.o"
+rm "target/$name.o" target/busy
 "#;
 
 const CRATES: [&str; 6] = [
     "c_blocks",
     "c_sealing",
-    "c_writer",
+    "c_writer_c",
     "c_reader",
     "c_page",
     "c_clear",
@@ -46,12 +53,12 @@ const CRATES_TXT: &str = "
 bits:
 state: bits io
 
-c_blocks: state
-c_sealing:
-c_writer:
-c_reader: state
-c_page: state
-c_clear: # and not report
+c_blocks staticlib: state
+c_sealing staticlib:
+c_writer_c staticlib:
+c_reader staticlib: state
+c_page staticlib: state
+c_clear staticlib: # and not report
 report: c_clear
 ";
 
@@ -61,7 +68,7 @@ const FUNCTIONS: [(&str, usize); 9] = [
     ("state", 1),
     ("c_blocks", 2),
     ("c_sealing", 4),
-    ("c_writer", 8),
+    ("c_writer_c", 8),
     ("c_reader", 16),
     ("c_clear", 32),
     ("report", 64),
@@ -101,7 +108,10 @@ fn all_proved(name: &str, functions: usize) -> String {
     let lines: String = (0..functions)
         .map(|k| format!("fn {name}::f{k}: proved\n"))
         .collect();
-    format!("{lines}library std: checked=0\nlogic=proved functions={functions} sum=09\n")
+    format!(
+        "{lines}library std: modules loaded=2 checked=0\ncrate {name}: modules loaded=2 checked=1\n\
+        logic=proved functions={functions} sum=09\n"
+    )
 }
 
 /// A repository with the script, one source and the stand-in.
@@ -116,18 +126,18 @@ impl Repository {
             fs::remove_dir_all(&root).expect("an earlier one is removed");
         }
         let repository = Repository { root };
-        fs::create_dir_all(repository.at("crates/c_blocks")).unwrap();
         fs::create_dir_all(repository.at("bin")).unwrap();
         fs::create_dir_all(repository.at("says")).unwrap();
         let script = Path::new(env!("CARGO_MANIFEST_DIR")).join("../../library");
         fs::copy(script, repository.at("library")).unwrap();
-        repository.write("crates/c_blocks/source", "one");
         repository.write("crates.txt", CRATES_TXT);
         repository.write("rattle-version", &format!("{KIT}\n"));
         repository.write("kit", &format!("{KIT}\n"));
         for (name, functions) in FUNCTIONS {
+            fs::create_dir_all(repository.at("crates").join(name)).unwrap();
             repository.says(name, &all_proved(name, functions));
         }
+        repository.write("crates/c_blocks/source", "one");
         repository.write_tool("rt", RT);
         for tool in TOOLS {
             let path = std::env::var_os("PATH").expect("a path");
@@ -178,7 +188,7 @@ impl Repository {
         run
     }
 
-    /// Runs it; the crates that were proved.
+    /// Runs it; what rt was asked, of which crates.
     fn proved(&self, arguments: &[&str]) -> Vec<String> {
         fs::remove_file(self.at("calls")).ok();
         let output = self.run(arguments).output().expect("it runs");
@@ -214,7 +224,7 @@ impl Repository {
         let mut there = names(&self.at(folder));
         there.retain(|name| name != "libsealed_book.a");
         assert_eq!(there, besides);
-        let rest = ["library.lock", "log", "stamp", "staticlib"];
+        let rest = ["library.lock", "log", "staticlib"];
         assert_eq!(names(&self.at("target")), rest);
     }
 }
@@ -235,9 +245,21 @@ fn names(folder: &Path) -> Vec<String> {
     names
 }
 
-/// Each crate is proved once.
+/// Each crate is proved once, behind those below it.
 fn once() -> Vec<String> {
-    CRATES.map(|name| format!("staticlib {name}")).to_vec()
+    asked(&[])
+}
+
+/// The same, where rt says nothing of these two or one of them, and what it said is not known.
+fn asked(again: &[&str]) -> Vec<String> {
+    let mut calls = Vec::new();
+    for name in ["bits", "state"].iter().chain(&CRATES) {
+        calls.push(format!("lib {name}"));
+        if again.contains(name) {
+            calls.push(format!("check {name}"));
+        }
+    }
+    calls
 }
 
 /// What stands beside the archive.
@@ -290,11 +312,21 @@ fn nothing_where_nothing_changed() {
     assert_eq!(repository.proved(&[]), none, "a document");
     assert_eq!(changed(), before, "a document");
 
-    let changes: [(&str, &dyn Fn()); 8] = [
+    // what rt makes
+    repository.write("crates/state/out/more", "one");
+    assert_eq!(repository.proved(&[]), none, "what rt makes");
+    assert_eq!(changed(), before, "what rt makes");
+
+    // a proof may be named so
+    let out = "crates/c_blocks/proofs/out";
+    fs::create_dir_all(repository.at(out)).unwrap();
+
+    let changes: [(&str, &dyn Fn()); 9] = [
         ("a source", &|| {
             repository.write("crates/c_blocks/source", "two")
         }),
         ("one more", &|| repository.write("crates/c_blocks/more", "")),
+        ("a proof", &|| repository.write(&format!("{out}/more"), "")),
         ("one less", &|| repository.remove("crates/c_blocks/more")),
         ("crates.txt", &|| {
             repository.write("crates.txt", &format!("{CRATES_TXT}#"))
@@ -372,6 +404,9 @@ fn the_line_is_that_of_the_archive() {
     for name in ["report", "io"] {
         repository.write(&format!("target/log/{name}.say"), &all_proved(name, 64));
     }
+    // nor is it a verdict on another crate
+    let state = format!("{}{}", all_proved("bits", 256), all_proved("state", 1));
+    repository.says("state", &state);
     assert_eq!(repository.proved(&[]), once());
     repository.assert_whole("target/staticlib", "one", &BESIDE);
     assert_eq!(repository.line(), PROVED);
@@ -443,34 +478,69 @@ fn what_is_not_proved_is_named() {
         repository.says(name, &proved);
     }
     // used, and the prover says nothing of it
-    let used = CRATES_TXT.replace("c_writer:", "c_writer: report");
+    let used = CRATES_TXT.replace("c_writer_c staticlib:", "c_writer_c staticlib: report");
+    repository.says("report", "");
     repository.write("crates.txt", &used);
     refused("library: not proved: crate report,");
 
+    // what was said in such a run does not count
     repository.write("crates.txt", CRATES_TXT);
-    assert_eq!(repository.proved(&[]), once());
+    assert_eq!(repository.proved(&[]), asked(&["bits", "state"]));
     repository.assert_whole("target/staticlib", "two", &BESIDE);
 }
 
-/// Where what the prover said is lost, and its stamps are not, the crates are proved again.
+/// Where what the prover said is lost, or of other files, and it says nothing now, it is asked.
 #[test]
 fn what_was_said_is_lost() {
     let repository = Repository::new("lost");
-    let losses: [(&str, &dyn Fn()); 3] = [
-        ("nothing", &|| ()),
-        ("all", &|| {
+    assert_eq!(repository.proved(&[]), once());
+    let of_others = all_proved("report", 64);
+    let losses: [(&str, &[&str], &dyn Fn()); 7] = [
+        ("nothing", &[], &|| ()),
+        ("all", &["bits", "state"], &|| {
             fs::remove_dir_all(repository.at("target/log")).unwrap()
         }),
-        ("the verdict", &|| {
+        ("the verdict", &["state"], &|| {
             repository.write("target/log/state.say", "fn state::f0: proved\n")
         }),
+        ("whose it is", &["state"], &|| {
+            let log = "target/log/state.say";
+            let said = fs::read_to_string(repository.at(log)).unwrap();
+            let (sum, _) = said.split_once('\n').unwrap();
+            repository.write(log, &format!("{sum}\n{of_others}"));
+        }),
+        ("a source", &["state"], &|| {
+            repository.write("crates/state/source", "one")
+        }),
+        ("one below", &["bits", "state"], &|| {
+            repository.write("crates/bits/source", "one")
+        }),
+        ("the kit", &["bits", "state"], &|| {
+            repository.write("kit", "kit 2 logic 22\n")
+        }),
     ];
-    for (name, lose) in losses {
+    for (name, again, lose) in losses {
         lose();
         repository.write("crates/c_blocks/source", name);
-        assert_eq!(repository.proved(&[]), once(), "{name}");
+        assert_eq!(repository.proved(&[]), asked(again), "{name}");
         assert_eq!(repository.line(), PROVED, "{name}");
     }
+}
+
+/// An archive that an earlier run left is not taken where rt makes none: the crate is no static library.
+#[test]
+fn no_archive_of_an_earlier_run() {
+    let repository = Repository::new("no archive");
+    assert_eq!(repository.proved(&[]), once());
+    repository.write("crates/c_blocks/source", "two");
+    let none = RT.replace(
+        "ar crD \"$out/lib$name.a\"",
+        "[ $name = c_page ] || ar crD \"$out/lib$name.a\"",
+    );
+    repository.write_tool("rt", &none);
+    let said = repository.fails("no archive");
+    assert!(said.contains("crates/c_page/out/libc_page.a"), "{said}");
+    repository.assert_whole("target/staticlib", "one", &BESIDE);
 }
 
 /// The lines on two kits.
@@ -507,6 +577,8 @@ fn another_kit_is_named() {
     let said = repository.fails("a failed proof");
     assert_eq!(said, format!("{both}{begun}c_blocks is not proved\n{both}"));
     repository.remove("refused");
+    // of another source, so that what was said before does not count
+    repository.write("crates/state/source", "another");
     repository.says("state", "");
     let said = repository.fails("no verdict");
     assert!(said.contains("library: not proved: crate state,"), "{said}");
