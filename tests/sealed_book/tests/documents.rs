@@ -17,8 +17,8 @@ use common::document::{
 };
 
 /// Folders of the repository that a path in a document begins with.
-const FOLDERS: [&str; 7] = [
-    "crates", "tests", "docs", "rust", "include", "examples", "bench",
+const FOLDERS: [&str; 8] = [
+    "crates", "tests", "docs", "rust", "include", "examples", "bench", "tools",
 ];
 
 /// Files that are named with their ending.
@@ -228,6 +228,8 @@ fn listed_crates(list: &Source) -> Vec<Listed> {
             let end = said.find([':', ',', '.']).unwrap_or(said.len());
             heading = said[..end].to_string();
         } else if let Some((name, _)) = text.split_once(':').filter(|_| said.is_none()) {
+            // "NAME: .." or, of a static library, "NAME staticlib: .."
+            let name = name.split_whitespace().next().unwrap_or_default();
             listed.push(Listed {
                 line,
                 heading: heading.clone(),
@@ -383,6 +385,13 @@ fn defines(path: &str, name: &str) -> bool {
     })
 }
 
+/// Whether this is the folder of a crate.
+fn is_crate(folder: &str) -> bool {
+    folder
+        .strip_prefix("crates/")
+        .is_some_and(|name| !name.contains('/'))
+}
+
 /// All files below a folder with one of these endings, as paths from the root.
 fn files(folder: &str, endings: &[&str]) -> Vec<String> {
     let mut found = Vec::new();
@@ -390,7 +399,9 @@ fn files(folder: &str, endings: &[&str]) -> Vec<String> {
         let entry = entry.expect("an entry");
         let path = format!("{folder}/{}", entry.file_name().to_string_lossy());
         if entry.path().is_dir() {
-            if !path.ends_with("/target") {
+            // what cargo makes, and what rt makes in a crate
+            let made = path.ends_with("/target") || path.ends_with("/out") && is_crate(folder);
+            if !made {
                 found.extend(files(&path, endings));
             }
         } else if endings.iter().any(|ending| path.ends_with(ending)) {

@@ -633,7 +633,7 @@ fn limits() {
     let words: Vec<&str> = readme.text.split_whitespace().collect();
     let text = words.join(" ");
     let segment = grouped(raw::SEGMENT_MAX);
-    let longest = "longestBook = ";
+    let longest = "longest_book = ";
     let line = Source::read("crates/check_book/specs/Line.antt");
     let book = line.text.split_once(longest).expect(longest).1;
     let book: String = book.chars().take_while(char::is_ascii_digit).collect();

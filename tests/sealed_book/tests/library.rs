@@ -114,14 +114,24 @@ fn all_proved(name: &str, functions: usize) -> String {
     )
 }
 
-/// A repository with the script, one source and the stand-in.
+/// A repository with the script, one source and the stand-in, in a folder of its own. It is not below this
+/// repository, in which rt suffers no other crates.txt, and is removed at the end of a test that passes.
 struct Repository {
     root: PathBuf,
 }
 
+impl Drop for Repository {
+    fn drop(&mut self) {
+        if !std::thread::panicking() {
+            fs::remove_dir_all(self.folder()).expect("it is removed");
+        }
+    }
+}
+
 impl Repository {
     fn new(name: &str) -> Repository {
-        let root = PathBuf::from(env!("CARGO_TARGET_TMPDIR")).join(name);
+        let folder = format!("library {} {name}", std::process::id());
+        let root = std::env::temp_dir().join(folder).join(name);
         if root.exists() {
             fs::remove_dir_all(&root).expect("an earlier one is removed");
         }
@@ -146,6 +156,11 @@ impl Repository {
             symlink(found.expect(tool), repository.at("bin").join(tool)).unwrap();
         }
         repository
+    }
+
+    /// The folder that has nothing else.
+    fn folder(&self) -> &Path {
+        self.root.parent().expect("a folder above")
     }
 
     fn at(&self, path: &str) -> PathBuf {
@@ -181,7 +196,7 @@ impl Repository {
     fn run(&self, arguments: &[&str]) -> Command {
         let mut run = Command::new(self.at("library"));
         run.args(arguments)
-            .current_dir(self.root.parent().expect("a folder above"))
+            .current_dir(self.folder())
             .env("PATH", self.at("bin"))
             .stdout(Stdio::piped())
             .stderr(Stdio::piped());

@@ -15,7 +15,7 @@ pub fn program(name: &str) -> PathBuf {
     };
     assert!(
         program.is_file(),
-        "there is no program {}: make it with `rt check {name}` at the repository's root, or name another \
+        "there is no program {}: make it with `./program {name}` at the repository's root, or name another \
          in {variable}",
         program.display()
     );
