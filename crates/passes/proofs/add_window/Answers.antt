@@ -11,11 +11,9 @@ use Rattle.passes.proofs.add_window.Goals as goal
 pub returns : goal.returns
 unfolding text
 returns c =
-    let w = c in
-    let p = w in
-    let a = p.args in (
+    let a = c.args in (
       c.add_all.ensures
-          ∙ (λ i. sum_from (p.requires.3 i) (blocks_of (length (w.window.ensures i))) (λ j. filled 0x00 (block (w.window.ensures i) j)))
-          ∙ window_sum a.suite a.key a.nonce.now p.requires.0.usable.short a.c.now a.first.0 (length a.work.now) p.requires.1,
-      w.window.ensures,
+          ∙ (λ i. sum_from (c.requires.3 i) (blocks_of (length (c.window.ensures i))) (λ j. filled 0x00 (block (c.window.ensures i) j)))
+          ∙ window_sum a.suite a.key a.nonce.now c.requires.0.usable.short a.c.now a.first.0 (length a.work.now) c.requires.1,
+      c.window.ensures,
     )

@@ -10,8 +10,7 @@ use Rattle.text_blocks.proofs.encipher_one.Goals as goal
 pub returns : goal.returns
 unfolding enciphered
 returns c =
-    let s = c in
-    let a = s.args in
+    let a = c.args in
     c.encipher_blocks.ensures.1
     ∙ enciphered_one a.suite.cipher a.suite.steps a.key a.tweak a.block (omega arith) (omega arith)
-    ∙ ap (λ l. cond l (enciphers a.suite a.key a.tweak a.block) a.block) s.requires
+    ∙ ap (λ l. cond l (enciphers a.suite a.key a.tweak a.block) a.block) c.requires

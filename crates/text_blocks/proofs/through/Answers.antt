@@ -21,10 +21,9 @@ use Rattle.text_blocks.proofs.through.Goals as goal
 
 pub returns-then-end-m : goal.returns-then-end-m
 returns-then-end-m c =
-    let p = c in
-    let a = p.args in
+    let a = c.args in
     let n = length a.s.now in
-    let whole : n % 16 ≡ 0 = before_whole a.m (16 * a.first.0 + n) n p.requires.1.whole (omega arith) in
+    let whole : n % 16 ≡ 0 = before_whole a.m (16 * a.first.0 + n) n c.requires.1.whole (omega arith) in
     c.blocks-then-end-m.ensures
     ∙ through_before (deciphers a.suite a.key) (enciphers a.suite a.key) a.nonce.now a.m a.first.0 a.s.now
     (omega arith) whole
@@ -36,9 +35,7 @@ returns-then-n-eq0 c =
 
 pub returns : goal.returns
 returns c =
-    let h = c in
-    let p = h in
-    let a = p.args in
+    let a = c.args in
     let s = a.s.now in
     let n = length s in
     let k = (n - 1) / 16 in
@@ -46,8 +43,8 @@ returns c =
     let g : ℕ → List ℕ → List ℕ = λ i b. numbered false a.suite a.key a.nonce.now (a.first.0 + i) b in
     let tweak : (i : ℕ) → length (text_tweak a.nonce.now (a.first.0 + i)) ≡ 16 = λ i. length_tweak a.nonce.now 0x00 (a.first.0 + i) (omega arith) in
     let some : 0 < n = omega arith in
-    let R = h.blocks-2.new.s in
-    let made : R ≡ strung k (λ i. g i (block s i)) = h.blocks-2.ensures ∙ front_blocks g s k (omega arith) in
+    let R = c.blocks-2.new.s in
+    let made : R ≡ strung k (λ i. g i (block s i)) = c.blocks-2.ensures ∙ front_blocks g s k (omega arith) in
     let long : length R ≡ at =
     ap length made
     ∙ strung_whole k (λ i. g i (block s i))
@@ -60,7 +57,7 @@ returns c =
     let W = R ++ drop at s in
     let left : take (length W - at) (drop at W) ≡ drop at s = part_rest at W ∙ drop_at R (drop at s) at long in
     let new : c.add_to.new.d ≡ added (drop at s) pad =
-    c.add_to.ensures ∙ (λ j. added (left j) ((p.requires.2 some end ∙ ap (λ r. added-to (length_block r)) last) j)) in
+    c.add_to.ensures ∙ (λ j. added (left j) ((c.requires.2 some end ∙ ap (λ r. added-to (length_block r)) last) j)) in
     (λ j. (take_at R (drop at s) at long ∙ made) j ++ (new j ++ part_none at W j))
     ∙ ap (λ l. strung k (λ i. g i (block s i)) ++ l) (append-nil (added (drop at s) pad))
     ∙ through_last (deciphers a.suite a.key) (enciphers a.suite a.key) a.nonce.now a.m a.first.0 s

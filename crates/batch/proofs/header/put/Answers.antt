@@ -18,20 +18,15 @@ returns-then-a-eq0 c =
 
 pub returns : goal.returns
 returns c =
-    let f = c in
-    let copied = f in
-    let put = copied in
-    let made = put in
-    let p = made in
-    let a = p.args in
+    let a = c.args in
     let h = a.header.now in
     let n = (length h - 1) / 16 in
-    let tweak = put.special_tweak.ensures ∙ ap (special_tweak a.nonce.now) put.last_header_mark.ensures in
-    let last = f.fill.ensures ∙ ap (filled 0x80) (part_rest (16 * n) h) in (
-      put.put_at.ensures
-          ∙ (λ j. paste (made.header_tweaks.ensures j) (16 * n) (tweak j) 16)
-          ∙ header_tweaks_put a.nonce.now h n (omega arith) a.tweaks.now (omega arith) _ made.start.ensures,
+    let tweak = c.special_tweak.ensures ∙ ap (special_tweak a.nonce.now) c.last_header_mark.ensures in
+    let last = c.fill.ensures ∙ ap (filled 0x80) (part_rest (16 * n) h) in (
+      c.put_at.ensures
+          ∙ (λ j. paste (c.header_tweaks.ensures j) (16 * n) (tweak j) 16)
+          ∙ header_tweaks_put a.nonce.now h n (omega arith) a.tweaks.now (omega arith) _ c.start.ensures,
       c.put_at-2.ensures
-          ∙ (λ j. paste (copied.copy.ensures j) (16 * n) (last j) 16)
+          ∙ (λ j. paste (c.copy.ensures j) (16 * n) (last j) 16)
           ∙ header-blocks-put a.nonce.now h n (omega arith) a.blocks.now,
     )

@@ -11,26 +11,21 @@ use Rattle.batch.proofs.sealing.put.Goals as goal
 
 pub returns : goal.returns
 returns c =
-    let tagged = c in
-    let text = tagged in
-    let header = text in
-    let counted = header in
-    let p = counted in
-    let a = p.args in
-    let whole = p.well_formed.1.1.1.0.1.0.1 in
-    let at = 16 * counted.blocks_of-h.result in
-    let end = at + 16 * counted.blocks_of.result in
+    let a = c.args in
+    let whole = c.well_formed.1.1.1.0.1.0.1 in
+    let at = 16 * c.blocks_of-h.result in
+    let end = at + 16 * c.blocks_of.result in
     let text_there : at ≡ 16 * blocks_of (length a.header.now) = omega arith in
     let tag-there : end ≡ at + 16 * blocks_of (length a.s.now) = omega arith in
-    let x = header.put.new.tweaks in
-    let y = text.put-2.new.tweaks in
-    let tweak = tagged.special_tweak.ensures ∙ ap (special_tweak a.nonce.now) tagged.tag_mark.ensures in (
-      tagged.put_at.ensures
+    let x = c.put.new.tweaks in
+    let y = c.put-2.new.tweaks in
+    let tweak = c.special_tweak.ensures ∙ ap (special_tweak a.nonce.now) c.tag_mark.ensures in (
+      c.put_at.ensures
           ∙ ap (λ (b : List ℕ). paste (take at x ++ (y ++ drop (length x - at) (drop at x))) end b 16) tweak
-          ∙ tweaks_in_turn a.nonce.now p.requires.0 a.header.now a.checksum whole a.m a.first.0 a.s.now p.requires.3
-          at end text_there tag-there a.tweaks.now x y header.put.ensures.0 text.put-2.ensures.0,
+          ∙ tweaks_in_turn a.nonce.now c.requires.0 a.header.now a.checksum whole a.m a.first.0 a.s.now c.requires.3
+          at end text_there tag-there a.tweaks.now x y c.put.ensures.0 c.put-2.ensures.0,
       c.put_at-2.ensures
-          ∙ blocks_in_turn a.nonce.now p.requires.0 a.header.now a.checksum whole a.m a.first.0 a.s.now p.requires.3
-          at end text_there tag-there a.blocks.now header.put.new.blocks text.put-2.new.blocks
-          header.put.ensures.1 text.put-2.ensures.1,
+          ∙ blocks_in_turn a.nonce.now c.requires.0 a.header.now a.checksum whole a.m a.first.0 a.s.now c.requires.3
+          at end text_there tag-there a.blocks.now c.put.new.blocks c.put-2.new.blocks
+          c.put.ensures.1 c.put-2.ensures.1,
     )

@@ -9,14 +9,12 @@ use Rattle.batch.proofs.sealing.rest.Goals as goal
 
 pub returns : goal.returns
 returns c =
-    let run = c in
-    let p = run in
-    let a = p.args in
+    let a = c.args in
     let e = enciphers a.suite a.key in
     let sum = header_sum e a.nonce.now a.header.now in (
       c.add.ensures
-          ∙ (λ j. added (run.run-tag.ensures.0 j) (run.sum-sum.ensures j))
-          ∙ tag_later e (enciphers_blockwise a.suite a.key) a.nonce.now p.requires.0.short a.m a.checksum sum
-          p.well_formed.1.1.1.1.1.0.1.0.1,
-      run.run-tag.ensures.1,
+          ∙ (λ j. added (c.run-tag.ensures.0 j) (c.sum-sum.ensures j))
+          ∙ tag_later e (enciphers_blockwise a.suite a.key) a.nonce.now c.requires.0.short a.m a.checksum sum
+          c.well_formed.1.1.1.1.1.0.1.0.1,
+      c.run-tag.ensures.1,
     )

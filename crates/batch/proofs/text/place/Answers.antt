@@ -20,17 +20,15 @@ returns-then-n-eq0 c =
 
 pub returns : goal.returns
 returns c =
-    let h = c in
-    let p = h in
-    let a = p.args in
+    let a = c.args in
     let s = a.s.now in
     let o = a.outcomes.now in
     let k = (length s - 1) / 16 in
     let at = 16 * k in
-    let R = h.copy.new.d in
+    let R = c.copy.new.d in
     let long : length (take at s) ≡ at = length-take-le at s (omega arith) in
     let made : R ≡ take at o =
-    h.copy.ensures
+    c.copy.ensures
     ∙ ap (λ (r : List ℕ). take at o ++ r) (drop_of_length-le (take at s) {i = length (take at o)} (omega (arith, long, length-take-le at o (omega arith))))
     ∙ append-nil (take at o) in
     let lr : length R ≡ at = ap length made ∙ length-take-le at o (omega arith) in
@@ -40,4 +38,4 @@ returns c =
     c.add_to.ensures ∙ (λ j. added (left j) (c.block_at.ensures j)) in
     (λ j. (take_at R (drop at s) at lr ∙ made ∙ front_strung k o (omega arith)) j ++ (new j ++ part_none at W j))
     ∙ ap (λ (l : List ℕ). strung k (block o) ++ l) (append-nil (added (drop at s) (block o k)))
-    ∙ placed_is a.m a.first.0 s p.requires.0 k (omega arith) o
+    ∙ placed_is a.m a.first.0 s c.requires.0 k (omega arith) o

@@ -20,18 +20,14 @@ returns-then-n-eq0 c =
 
 pub returns : goal.returns
 returns c =
-    let copied = c in
-    let put = copied in
-    let made = put in
-    let p = made in
-    let a = p.args in
+    let a = c.args in
     let s = a.s.now in
     let n = (length s - 1) / 16 in
-    let tweak = put.special_tweak.ensures ∙ ap (special_tweak a.nonce.now) put.last_text_mark.ensures in (
-      put.put_at.ensures
-          ∙ (λ j. paste (made.text_tweaks.ensures j) (16 * n) (tweak j) 16)
-          ∙ text_tweaks_put a.m a.first.0 s p.requires.2 n (omega arith) a.nonce.now p.requires.0 a.tweaks.now,
+    let tweak = c.special_tweak.ensures ∙ ap (special_tweak a.nonce.now) c.last_text_mark.ensures in (
+      c.put_at.ensures
+          ∙ (λ j. paste (c.text_tweaks.ensures j) (16 * n) (tweak j) 16)
+          ∙ text_tweaks_put a.m a.first.0 s c.requires.2 n (omega arith) a.nonce.now c.requires.0 a.tweaks.now,
       c.put_at-2.ensures
-          ∙ (λ j. paste (copied.copy.ensures j) (16 * n) (c.length_block.ensures j) 16)
-          ∙ text_blocks_put a.m a.first.0 s p.requires.2 n (omega arith) a.blocks.now,
+          ∙ (λ j. paste (c.copy.ensures j) (16 * n) (c.length_block.ensures j) 16)
+          ∙ text_blocks_put a.m a.first.0 s c.requires.2 n (omega arith) a.blocks.now,
     )

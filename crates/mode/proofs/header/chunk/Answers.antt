@@ -8,11 +8,8 @@ use Rattle.mode.proofs.header.chunk.Goals as goal
 
 pub returns : goal.returns
 returns c =
-    let copied = c in
-    let tweaked = copied in
-    let start = tweaked in
-    let a = start.args in
+    let a = c.args in
     c.add_blocks.ensures
-    ∙ chunk_sum a.suite a.key start.requires.0 a.first.0 a.k a.header.now a.sum start.requires.2 _ _ _
+    ∙ chunk_sum a.suite a.key c.requires.0 a.first.0 a.k a.header.now a.sum c.requires.2 _ _ _
     (c.encipher_blocks.ensures.1
-    ∙ (λ j. enciphered_blocks a.suite.cipher a.suite.steps a.key (take (16 * a.k) (tweaked.header_tweaks.ensures j)) (copied.copy.ensures j)))
+    ∙ (λ j. enciphered_blocks a.suite.cipher a.suite.steps a.key (take (16 * a.k) (c.header_tweaks.ensures j)) (c.copy.ensures j)))

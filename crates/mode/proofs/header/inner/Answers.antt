@@ -23,13 +23,12 @@ loop-at-init c =
 
 pub loop-at-preserved : goal.loop-at-preserved
 loop-at-preserved c =
-    let h = c in
-    let a = h.args in
+    let a = c.args in
     let e : ℕ → List ℕ → List ℕ = λ i. enciphers a.suite a.key (header_tweak a.nonce.now i) in
     let k = c.up_to_64-k.result in (
       omega arith,
       omega arith,
       c.chunk-more.ensures
-          ∙ sum_chunk e a.header.now h.loop-at.sum h.loop-at.next.0 k h.loop-at.at h.loop-at.invariant.1 h.loop-at.invariant.2
+          ∙ sum_chunk e a.header.now c.loop-at.sum c.loop-at.next.0 k c.loop-at.at c.loop-at.invariant.1 c.loop-at.invariant.2
           ∙ ap (summed a.suite a.key a.nonce.now a.header.now) (sym c.after-next.ensures),
     )

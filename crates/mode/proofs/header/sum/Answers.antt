@@ -18,11 +18,10 @@ returns-then-a-eq0 c =
 
 pub returns : goal.returns
 returns c =
-    let f = c in
-    let a = f.args in
+    let a = c.args in
     let h = a.header.now in
     let n = (length h - 1) / 16 in
     let tweak = c.special_tweak-t.ensures ∙ ap (special_tweak a.nonce.now) c.last_header_mark.ensures in
-    let last = f.fill-last.ensures ∙ ap (filled 0x80) (part_rest (16 * n) h) in
+    let last = c.fill-last.ensures ∙ ap (filled 0x80) (part_rest (16 * n) h) in
     let one = c.encipher_one.ensures ∙ (λ i. enciphers a.suite a.key (tweak i) (last i)) in
-    c.add.ensures ∙ (λ i. added (f.inner-whole.ensures i) (one i)) ∙ header-all (enciphers a.suite a.key) a.nonce.now h n (omega arith)
+    c.add.ensures ∙ (λ i. added (c.inner-whole.ensures i) (one i)) ∙ header-all (enciphers a.suite a.key) a.nonce.now h n (omega arith)

@@ -11,13 +11,12 @@ use Rattle.mode.proofs.tag.same.Goals as goal
 
 pub loop-i-preserved : goal.loop-i-preserved
 loop-i-preserved c =
-    let h = c in
-    let i = h.loop-i.i in
-    let x = h.args.a in
-    let y = h.args.b in (
+    let i = c.loop-i.i in
+    let x = c.args.a in
+    let y = c.args.b in (
       omega arith,
-      differs_more h.loop-i.d (get_or x i 0) (get_or y i 0)
-          ∙ ap (λ t. t && eqb (get_or x i 0) (get_or y i 0)) h.loop-i.invariant.1
+      differs_more c.loop-i.d (get_or x i 0) (get_or y i 0)
+          ∙ ap (λ t. t && eqb (get_or x i 0) (get_or y i 0)) c.loop-i.invariant.1
           ∙ ap (λ n. same_bytes n x y) (sym (add-one i)),
     )
 

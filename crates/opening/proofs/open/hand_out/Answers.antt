@@ -14,52 +14,35 @@ use Rattle.opening.proofs.open.hand_out.Goals as goal
 
 pub returns-then-n-m : goal.returns-then-n-m
 returns-then-n-m c =
-    let front : length (take c.lesser-n.result c.args.work.now) ≡ c.lesser-n.result = length-take-le c.lesser-n.result c.args.work.now (omega arith) in
-    let first : let a = c.args in take c.lesser-n.result a.work.now ≡ text_part a.suite a.key a.nonce.now a.c.now 0 c.lesser-n.result = let p = c in
-    let a = p.args in
-    ap (λ n. take n a.work.now) c.lesser-n.ensures
-    ∙ p.requires.3
-    ∙ ap (text_part a.suite a.key a.nonce.now a.c.now 0) (sym c.lesser-n.ensures) in
-    let copied : let n = c.lesser-n.result in let a = c.args in c.copy.new.d ≡ take n a.work.now ++ drop n a.out.now = let h = c in
-    let a = h.args in
-    c.copy.ensures ∙ ap (λ n. take h.lesser-n.result a.work.now ++ drop n a.out.now) (front) in
-    let kept : length c.copy.new.d ≡ length c.args.out.now = let h = c in
-    let a = h.args in
-    ap length copied
-    ∙ length-append (take h.lesser-n.result a.work.now) (drop h.lesser-n.result a.out.now)
-    ∙ omega (arith, front, length-drop h.lesser-n.result a.out.now) in
-    let left : let n = c.lesser-n.result in let m = length c.args.c.now in length (take (m - n) (drop n c.copy.new.d)) ≡ m - n = let n = c.lesser-n.result in
-    let m = length c.args.c.now in
-    length-take-le (m - n) (drop n c.copy.new.d) (rw (length-drop, kept) (omega arith)) in
-    let blocks : let n = c.lesser-n.result in 16 * (n / 16) ≡ n = let h = c in
-    let p = h in
-    let w : h.lesser-n.result ≡ length p.args.work.now = omega arith in
-    omega (arith, p.requires.2) in
-    let next : c.after-next.result.0 ≡ c.lesser-n.result / 16 = omega arith in
-    let d = c in
-    let t = d in
-    let k = t in
-    let h = k in
-    let a = h.args in
+    let a = c.args in
     let m = length a.c.now in
-    let n = h.lesser-n.result in
+    let n = c.lesser-n.result in
     let f = deciphers a.suite a.key in
     let e = enciphers a.suite a.key in
-    let b = blocks in
-    let C = k.copy.new.d in
+    let part = text_part a.suite a.key a.nonce.now a.c.now 0 in
+    let C = c.copy.new.d in
     let A = take n a.work.now in
     let at = 16 * (n / 16) in
-    let part = text_part a.suite a.key a.nonce.now a.c.now 0 in
-    let start : take n C ≡ part at = ap (take n) (copied) ∙ take_at A (drop n a.out.now) n (front) ∙ first ∙ ap part (sym b) in
-    let number = next in
-    let rest : take (length (take (m - n) (drop n C))) (drop (16 * d.after-next.result.0) a.c.now) ≡ drop at a.c.now =
+    -- the first window, whole blocks, and how it was copied
+    let front : length A ≡ n = length-take-le n a.work.now (omega arith) in
+    let all_work : n ≡ length a.work.now = omega arith in
+    let b : at ≡ n = omega (arith, c.requires.2) in
+    let first : A ≡ part n = ap (λ k. take k a.work.now) c.lesser-n.ensures ∙ c.requires.3 ∙ ap part (sym c.lesser-n.ensures) in
+    let copied : C ≡ A ++ drop n a.out.now = c.copy.ensures ∙ ap (λ k. A ++ drop k a.out.now) front in
+    let kept : length C ≡ length a.out.now =
+    ap length copied ∙ length-append A (drop n a.out.now) ∙ omega (arith, front, length-drop n a.out.now) in
+    let start : take n C ≡ part at = ap (take n) copied ∙ take_at A (drop n a.out.now) n front ∙ first ∙ ap part (sym b) in
+    -- what follows it
+    let left : length (take (m - n) (drop n C)) ≡ m - n = length-take-le (m - n) (drop n C) (rw (length-drop, kept) (omega arith)) in
+    let number : c.after-next.result.0 ≡ n / 16 = omega arith in
+    let rest : take (length (take (m - n) (drop n C))) (drop (16 * c.after-next.result.0) a.c.now) ≡ drop at a.c.now =
     ap (λ k. take (length (take (m - n) (drop n C))) (drop (16 * k) a.c.now)) number
     ∙ ap (λ j. take j (drop at a.c.now)) (left ∙ ap (λ j. m - j) (sym b))
     ∙ part_rest at a.c.now in
     let all : n + (m - n) ≡ m = omega arith in
     let behind : drop (m - n) (drop n C) ≡ drop m a.out.now =
-    ap (λ l. drop (m - n) (drop n l)) (copied)
-    ∙ ap (drop (m - n)) (drop_at A (drop n a.out.now) n (front))
+    ap (λ l. drop (m - n) (drop n l)) copied
+    ∙ ap (drop (m - n)) (drop_at A (drop n a.out.now) n front)
     ∙ drop-drop (m - n) n a.out.now
     ∙ ap (λ j. drop j a.out.now) all in
     (λ i. start i ++ ((c.window.ensures ∙ (λ j. through f e a.nonce.now m (number j) (rest j))) i ++ behind i))

@@ -7,30 +7,21 @@ use Rattle.opening.proofs.open.open_with.Goals as goal
 
 pub returns-then-same : goal.returns-then-same
 returns-then-same c =
-    let same : let a = c.args in c.same.result ≡ agrees a.suite.cipher a.suite.steps a.key a.nonce.now a.header.now a.sealed.now = let t = c in
-    let p = t in
-    let a = p.args in
+    let a = c.args in
+    let same : c.same.result ≡ agrees a.suite.cipher a.suite.steps a.key a.nonce.now a.header.now a.sealed.now =
     c.same.ensures
-    ∙ (λ i. same_bytes 16 (t.tag_of-tag.ensures.0 i) (c.block_at.ensures i))
-    ∙ agrees_is a.suite a.key a.nonce.now a.header.now a.sealed.now p.requires.0.long in
-    let h = c in
-    let p = h in
-    let a = p.args in
+    ∙ (λ i. same_bytes 16 (c.tag_of-tag.ensures.0 i) (c.block_at.ensures i))
+    ∙ agrees_is a.suite a.key a.nonce.now a.header.now a.sealed.now c.requires.0.long in
     let is =
-    with_tag a.suite a.key a.nonce.now a.header.now a.sealed.now a.out.now p.requires.0.text.usable.short
-    (sym (same) ∙ c.if-same.true) in
+    with_tag a.suite a.key a.nonce.now a.header.now a.sealed.now a.out.now c.requires.0.text.usable.short
+    (sym same ∙ c.if-same.true) in
     record { answer = is.answer; output = c.hand_out.ensures ∙ is.output }
 
 pub returns : goal.returns
 returns c =
-    let same : let a = c.args in c.same.result ≡ agrees a.suite.cipher a.suite.steps a.key a.nonce.now a.header.now a.sealed.now = let t = c in
-    let p = t in
-    let a = p.args in
+    let a = c.args in
+    let same : c.same.result ≡ agrees a.suite.cipher a.suite.steps a.key a.nonce.now a.header.now a.sealed.now =
     c.same.ensures
-    ∙ (λ i. same_bytes 16 (t.tag_of-tag.ensures.0 i) (c.block_at.ensures i))
-    ∙ agrees_is a.suite a.key a.nonce.now a.header.now a.sealed.now p.requires.0.long in
-    let h = c in
-    let p = h in
-    let a = p.args in
-    without_tag a.suite a.key a.nonce.now a.header.now a.sealed.now a.out.now p.requires.0.text.usable.short
-    (sym (same) ∙ c.if-same.false)
+    ∙ (λ i. same_bytes 16 (c.tag_of-tag.ensures.0 i) (c.block_at.ensures i))
+    ∙ agrees_is a.suite a.key a.nonce.now a.header.now a.sealed.now c.requires.0.long in
+    without_tag a.suite a.key a.nonce.now a.header.now a.sealed.now a.out.now c.requires.0.text.usable.short (sym same ∙ c.if-same.false)
