@@ -73,6 +73,12 @@ pub parts_same : {a b x y : List ℕ} {s n : List ℕ} {r : Parts} → a ≡ b �
 parts_same e f p =
     record { nonce_is = p.nonce_is; along_is = p.along_is ∙ e; along_fits = p.along_fits; sealed_is = p.sealed_is ∙ f; starts = p.starts; ends = p.ends }
 
+-- opening by the parts of a frame is opening by the strings that they are
+pub by_parts : {n a x s : List ℕ} {p : Parts} (suite : Suite) (key : List ℕ) → PartsOf n a x s p
+    → verify_answer suite.cipher suite.steps key p.nonce (take p.len p.along) (take (p.end - p.start) (drop p.start s) ++ p.tag)
+    ≡ verify_answer suite.cipher suite.steps key n a x
+by_parts suite key r = λ i. verify_answer suite.cipher suite.steps key (r.nonce_is i) (r.along_is i) (r.sealed_is i)
+
 -- the source length is in the text's first two bytes
 pub stated : (t : List ℕ) → 2 ≤ length t → get_or t 0 0 * 256 + get_or t 1 0 ≡ source_length t
 unfolding source_length

@@ -1,0 +1,34 @@
+-- The places of a close's fields.
+use mathlib.Core.Path.{ap}
+use mathlib.Core.List.{◌++◌}
+use native.Mathlib.Omega.{arith}
+use lib.ListN.{take}
+use Rattle.kinds.specs.Kind.{kind_of}
+use Rattle.parser.proofs.Frames.{CloseTold, close_told}
+use Rattle.seals.specs.Seal.{close_along}
+use Rattle.seals.proofs.Verified.{parts_same, close_sealed_is}
+use Rattle.seals.proofs.close_parts.Goals as goal
+
+pub parts_at-requires : goal.parts_at-requires
+parts_at-requires c =
+    let told : CloseTold (kind_of c.args.kind) c.args.n c.args.s.now = close_told (kind_of c.args.kind) c.args.n c.args.s.now c.requires.1 in
+    let t = told in
+    let h = c.close_header_len-h.ensures in (
+      c.requires.0,
+      record {
+        short = omega arith;
+        within = omega (arith, t.length_is);
+        starts = omega arith;
+        ends = omega (arith, t.length_is);
+        tagged = omega (arith, t.length_is);
+      },
+    )
+
+pub returns : goal.returns
+unfolding close_along
+returns c =
+    let a = c.args in
+    parts_same
+    (ap (λ n. a.front.now ++ take n a.s.now) c.close_header_len-h.ensures.is)
+    (close_sealed_is (kind_of a.kind) a.s.now c.close_header_len-h.result c.close_header_len-h.ensures.is)
+    c.parts_at.ensures
