@@ -4,6 +4,7 @@
 //! instead, and nothing is proved.
 
 use std::env;
+use std::fs;
 use std::path::{Path, PathBuf};
 use std::process::{exit, Command};
 
@@ -58,8 +59,16 @@ fn given(folder: PathBuf) -> Result<PathBuf, String> {
 /// they are proved.
 fn proved() -> Result<PathBuf, String> {
     let root = Path::new(&variable("CARGO_MANIFEST_DIR")).join("..");
-    for source in ["crates", "crates.txt", "library"] {
-        println!("cargo:rerun-if-changed={}", root.join(source).display());
+    let mut sources = ["crates.txt", "library"]
+        .map(|name| root.join(name))
+        .to_vec();
+    for folder in entries(&root.join("crates")) {
+        // but what the prover makes there
+        let made = folder.join("out");
+        sources.extend(entries(&folder).into_iter().filter(|entry| *entry != made));
+    }
+    for source in sources {
+        println!("cargo:rerun-if-changed={}", source.display());
     }
     let folder = PathBuf::from(variable("OUT_DIR"));
     let script = root.join("library");
@@ -72,6 +81,12 @@ fn proved() -> Result<PathBuf, String> {
         Some(127) => Err(format!("{}: {INSTEAD}", last_line(&said))),
         _ => Err(format!("{said}library: {}: {INSTEAD}", output.status)),
     }
+}
+
+/// What is in a folder; nothing where it is none.
+fn entries(folder: &Path) -> Vec<PathBuf> {
+    let entries = fs::read_dir(folder).into_iter().flatten().flatten();
+    entries.map(|entry| entry.path()).collect()
 }
 
 fn last_line(said: &str) -> &str {
