@@ -2,10 +2,13 @@
 //! once, with nothing changed, with a proof that fails, with a tool missing, with another kit, and what it
 //! says of what was proved.
 
+mod common;
+
 use std::fs;
-use std::os::unix::fs::{symlink, PermissionsExt};
-use std::path::{Path, PathBuf};
-use std::process::{Command, Output, Stdio};
+use std::ops::Deref;
+use std::process::Command;
+
+use common::script::{names, said, Scratch};
 
 /// Stands in for rt: prints the file `kit` as its version. Else it notes what it is asked and the crate whose
 /// folder it is in. What it says of a crate is the file of its name in `says`: of a library that others use,
@@ -114,32 +117,20 @@ fn all_proved(name: &str, functions: usize) -> String {
     )
 }
 
-/// A repository with the script, one source and the stand-in, in a folder of its own. It is not below this
-/// repository, in which rt suffers no other crates.txt, and is removed at the end of a test that passes.
-struct Repository {
-    root: PathBuf,
-}
+/// A repository with the script, one source and the stand-in.
+struct Repository(Scratch);
 
-impl Drop for Repository {
-    fn drop(&mut self) {
-        if !std::thread::panicking() {
-            fs::remove_dir_all(self.folder()).expect("it is removed");
-        }
+impl Deref for Repository {
+    type Target = Scratch;
+
+    fn deref(&self) -> &Scratch {
+        &self.0
     }
 }
 
 impl Repository {
     fn new(name: &str) -> Repository {
-        let folder = format!("library {} {name}", std::process::id());
-        let root = std::env::temp_dir().join(folder).join(name);
-        if root.exists() {
-            fs::remove_dir_all(&root).expect("an earlier one is removed");
-        }
-        let repository = Repository { root };
-        fs::create_dir_all(repository.at("bin")).unwrap();
-        fs::create_dir_all(repository.at("says")).unwrap();
-        let script = Path::new(env!("CARGO_MANIFEST_DIR")).join("../../library");
-        fs::copy(script, repository.at("library")).unwrap();
+        let repository = Repository(Scratch::new("library", name, &TOOLS));
         repository.write("crates.txt", CRATES_TXT);
         repository.write("rattle-version", &format!("{KIT}\n"));
         repository.write("kit", &format!("{KIT}\n"));
@@ -149,36 +140,7 @@ impl Repository {
         }
         repository.write("crates/c_blocks/source", "one");
         repository.write_tool("rt", RT);
-        for tool in TOOLS {
-            let path = std::env::var_os("PATH").expect("a path");
-            let found = std::env::split_paths(&path).map(|folder| folder.join(tool));
-            let found = found.into_iter().find(|file| file.exists());
-            symlink(found.expect(tool), repository.at("bin").join(tool)).unwrap();
-        }
         repository
-    }
-
-    /// The folder that has nothing else.
-    fn folder(&self) -> &Path {
-        self.root.parent().expect("a folder above")
-    }
-
-    fn at(&self, path: &str) -> PathBuf {
-        self.root.join(path)
-    }
-
-    fn write(&self, path: &str, text: &str) {
-        fs::write(self.at(path), text).unwrap();
-    }
-
-    fn write_tool(&self, name: &str, script: &str) {
-        let file = self.at("bin").join(name);
-        fs::write(&file, script).unwrap();
-        fs::set_permissions(file, fs::Permissions::from_mode(0o755)).unwrap();
-    }
-
-    fn remove(&self, path: &str) {
-        fs::remove_file(self.at(path)).unwrap();
     }
 
     /// What the prover is to say of a crate.
@@ -188,19 +150,7 @@ impl Repository {
 
     /// The line beside the archive.
     fn line(&self) -> String {
-        let line = self.at("target/staticlib/libsealed_book.proved");
-        fs::read_to_string(line).expect("the line beside the archive")
-    }
-
-    /// A run, from the folder above, with only the tools in `bin`.
-    fn run(&self, arguments: &[&str]) -> Command {
-        let mut run = Command::new(self.at("library"));
-        run.args(arguments)
-            .current_dir(self.folder())
-            .env("PATH", self.at("bin"))
-            .stdout(Stdio::piped())
-            .stderr(Stdio::piped());
-        run
+        self.read("target/staticlib/libsealed_book.proved")
     }
 
     /// Runs it; what rt was asked, of which crates.
@@ -217,11 +167,6 @@ impl Repository {
         let said = said(&output);
         assert_eq!(output.status.code(), Some(1), "{reason}: {said}");
         said
-    }
-
-    fn calls(&self) -> Vec<String> {
-        let calls = fs::read_to_string(self.at("calls")).unwrap_or_default();
-        calls.lines().map(str::to_string).collect()
     }
 
     /// The archive in this folder has the crates' members, made from this source, and nothing else is there
@@ -242,22 +187,6 @@ impl Repository {
         let rest = ["library.lock", "log", "staticlib"];
         assert_eq!(names(&self.at("target")), rest);
     }
-}
-
-fn said(output: &Output) -> String {
-    [&output.stdout, &output.stderr]
-        .map(|bytes| String::from_utf8_lossy(bytes))
-        .concat()
-}
-
-/// The names of what is in a folder.
-fn names(folder: &Path) -> Vec<String> {
-    let entries = fs::read_dir(folder).unwrap();
-    let mut names: Vec<String> = entries
-        .map(|entry| entry.unwrap().file_name().to_string_lossy().into_owned())
-        .collect();
-    names.sort();
-    names
 }
 
 /// Each crate is proved once, behind those below it.

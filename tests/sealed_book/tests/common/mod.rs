@@ -1,6 +1,6 @@
 //! Both directions of a cipher, in the library and in the reference; sealing; writing and checking a
 //! book, fetching from it, comparing a sentence with it, and what it says in the clear; causes of refusal;
-//! programs for the shell; and documents.
+//! programs for the shell; scripts; and documents.
 
 // Each test file uses a part of this.
 #![allow(dead_code)]
@@ -15,6 +15,7 @@ pub mod paging;
 pub mod parts;
 pub mod program;
 pub mod refused;
+pub mod script;
 pub mod sealing;
 pub mod spoiled;
 pub mod spoiling;
