@@ -2,9 +2,10 @@
 use mathlib.Core.Path.{◌≡◌, sym, ap, ◌∙◌}
 use mathlib.Core.Logic.{◌⊎◌, inl, inr}
 use mathlib.Core.List.{List, ◌++◌, append_assoc}
-use Prim.Native.Nat.{ℕ, ◌+◌, ◌*◌, ◌%◌, ◌^◌, ◌≤◌, ◌<◌, min}
+use Prim.Native.Nat.{ℕ, ◌+◌, ◌-◌, ◌*◌, ◌%◌, ◌^◌, ◌≤◌, ◌<◌, min}
+use native.Mathlib.Decide.{ℕ_discrete}
 use native.Mathlib.Omega.{arith}
-use lib.ListN.{length, get_or, take, drop, get_or-append}
+use lib.ListN.{length, get_or, take, drop, get_or-append, length-append, length-drop}
 use lib.Seq.{take_all, take-add, drop_at, take-take, take-append-le, get_or-take, length-take-le}
 use Rattle.calls.specs.Pieces.{through}
 use Rattle.calls.proofs.ByBlocks.{length_through}
@@ -84,3 +85,42 @@ front_joined t w r n k same less room =
     ∙ ap (λ (l : List ℕ). (l ++ take n (drop 16 t)) ++ r) same
     ∙ ap (λ (l : List ℕ). l ++ r) (sym (take-add 16 n t)))
     ∙ front_enough t r (16 + n) k less room
+
+-- n bytes of m at the start: whole blocks, or all
+pub start-part : (m n : ℕ) → m ≤ 2 ^ 24 → n ≡ min m 16 → Part m 0 n
+start-part m n small e = record { small = small; within = omega arith; whole = by (ℕ_discrete n m) }
+  where
+    by : Dec (n ≡ m) → (16 * 0 + n ≡ m) ⊎ (n % 16 ≡ 0)
+    by (yes d) = inl (omega arith)
+    by (no d) = let whole : n ≡ 16 = omega arith in inr (ap (λ (k : ℕ). k % 16) whole)
+
+-- and behind the first block up to the end e
+pub rest_part : (m n e k : ℕ) → m ≤ 2 ^ 24 → e ≡ min m (16 * k) → 16 < e → n ≡ e - 16 → Part m 1 n
+rest_part m n e k small is more long = record { small = small; within = omega arith; whole = by (ℕ_discrete e m) }
+  where
+    by : Dec (e ≡ m) → (16 * 1 + n ≡ m) ⊎ (n % 16 ≡ 0)
+    by (yes d) = inl (omega arith)
+    by (no d) = inr (omega arith)
+
+-- what the first window leaves: the first n bytes of the text t, and behind them what was there
+pub record Held (t work held : List ℕ) (n : ℕ) : Type 0 where
+  pub is : held ≡ take n t ++ drop n work
+  pub long : length held ≡ length work
+  pub says : 2 ≤ n → get_or held 0 0 * 256 + get_or held 1 0 ≡ source_length t
+
+pub first_held : (s : Suite) (key nonce : List ℕ) → length nonce ≤ 15 → (c : List ℕ) → length c ≤ 2 ^ 24 → (work w : List ℕ) (n : ℕ)
+    → n ≡ min (length c) 16 → 16 ≤ length work → w ≡ text_part s key nonce c 0 n → Held (text_of s key nonce c) work (w ++ drop n work) n
+first_held s key nonce short c small work w n least room e =
+    let t = text_of s key nonce c in
+    let t-long : length t ≡ length c = text_long s key nonce short c small in
+    let held : w ++ drop n work ≡ take n t ++ drop n work =
+    ap (λ (l : List ℕ). l ++ drop n work) (e ∙ text_front s key nonce short c small n (start-part (length c) n small least)) in
+    record {
+      is = held;
+      long =
+          ap length held
+          ∙ length-append (take n t) (drop n work)
+          ∙ omega (arith, length-take-le n t (omega arith), length-drop n work);
+      says = λ two.
+          ap (λ (l : List ℕ). get_or l 0 0 * 256 + get_or l 1 0) held ∙ stated_front t (drop n work) n two (omega arith);
+    }
