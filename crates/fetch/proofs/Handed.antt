@@ -61,12 +61,12 @@ hands_refused t out e = hands_same {t = t} out (sym e) refl (refl, refl)
 
 -- the source and the target of a text are what follows its first two bytes
 module _ (t : List ℕ) where
-  handed_out : handed_out t ≡ drop 2 t
+  handed_is : handed_out t ≡ drop 2 t
   unfolding source_of target_of
-  handed_out = ap (λ (r : List ℕ). source_of t ++ r) (sym (drop-drop (source_length t) 2 t)) ∙ take-append-drop (source_length t) (drop 2 t)
+  handed_is = ap (λ (r : List ℕ). source_of t ++ r) (sym (drop-drop (source_length t) 2 t)) ∙ take-append-drop (source_length t) (drop 2 t)
 
   length-handed : length (handed_out t) ≡ length t - 2
-  length-handed = ap length handed_out ∙ length-drop 2 t
+  length-handed = ap length handed_is ∙ length-drop 2 t
 
   pub source_within : text_in_range (length t) (source_length t) ≡ true → source_length t ≤ length t - 2
   source_within ok = omega (arith, length-handed, length-append (source_of t) (target_of t), length_source_of t ok)
@@ -91,7 +91,7 @@ module _ (t : List ℕ) where
           let done = in-range ∙ ap (λ b. unless b OutputTooShort Done) (le-leb (length t - 2) (length out) h) in
           let target : length t - 2 - source_length t ≡ length (target_of t) = omega (arith, length_target_of t) in
           hands_same out (sym done) refl
-          (λ i. Fetched (sym (length_source_of t ok) i) (target i), ap (λ r. r ++ drop (length r) out) (sym handed_out))
+          (λ i. Fetched (sym (length_source_of t ok) i) (target i), ap (λ r. r ++ drop (length r) out) (sym handed_is))
 
 -- of a unit's text
 module _ (u : BookUnit) (small : length u.source < 65536) {t : List ℕ} (text : t ≡ unit_text u.source u.target) where
