@@ -3,7 +3,6 @@ use mathlib.Core.Path.{◌≡◌, sym, ap, ◌∙◌}
 use mathlib.Core.List.{List}
 use Prim.Native.Nat.{ℕ, ◌+◌, ◌*◌, ◌≤◌}
 use native.Mathlib.Omega.{arith}
-use borrow.Author.Rules.{rules}
 use lib.ListN.{length, get_or, take, drop, length-drop}
 use lib.Seq.{get_or-drop}
 use Rattle.bits.specs.Bytes.{number_of}
@@ -14,8 +13,7 @@ use Rattle.kinds.specs.Kind.{kind_of}
 use Rattle.kinds.specs.Lengths.{header_length}
 use Rattle.parser.specs.Frame.{after_header}
 use Rattle.page.specs.Page.{ciphertext_length}
-use Rattle.page.proofs.ciphertext_len.Statement.{statement}
-use Rattle.page.proofs.ciphertext_len.Tie as tie
+use Rattle.page.proofs.ciphertext_len.Goals as goal
 
 stated : (kind : Kind) (s : List ℕ) (at : ℕ) → at ≡ header_length kind → at + 3 ≤ length s
     → get_or s (at + 1) 0 * 256 + get_or s (at + 2) 0 ≡ ciphertext_length kind s
@@ -27,21 +25,7 @@ stated kind s at e room =
     ∙ pair_at r 1 (rw length-drop (omega arith))
     ∙ ap (λ (k : ℕ). number_of (take 2 (drop 1 (drop k s)))) e
 
-returns : tie.Need-returns
+pub returns : goal.returns
 returns c =
-    let h = c.before.before.before in
-    let p = h.before.before in
     c.pair.ensures
-    ∙ stated (kind_of p.args.kind) p.args.s.now h.header-len.result h.header-len.ensures.is (omega (arith, h.header-len.ensures.is, p.requires))
-
-pub ciphertext-len-spec : {M : Type 1} → statement M
-ciphertext-len-spec =
-    tie.close
-    (tie.spec
-    (λ c κs. search rules)
-    (λ c. search rules)
-    (λ c. search rules)
-    (λ c. search rules)
-    (λ c. search rules)
-    (λ c κs. search rules)
-    returns)
+    ∙ stated (kind_of c.args.kind) c.args.s.now c.header_len-at.result c.header_len-at.ensures.is (omega (arith, c.header_len-at.ensures.is, c.requires))
