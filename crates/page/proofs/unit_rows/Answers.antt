@@ -5,8 +5,6 @@ use Prim.Native.Nat.{ℕ, ◌+◌, ◌-◌, ◌≤◌}
 use native.Mathlib.Omega.{arith}
 use lib.ListN.{length, drop, length-drop}
 use lib.Seq.{length-take-le}
-use lib.Seq.{length-take-le}
-use lib.Seq.{length-take-le}
 use Rattle.bits.proofs.Lists.{part_rest}
 use Rattle.kinds.specs.Kind.{kind_of}
 use Rattle.kinds.specs.Lengths.{frame_length}

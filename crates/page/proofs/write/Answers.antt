@@ -3,5 +3,4 @@ use Rattle.prepared.proofs.Rooms.{room_zeros}
 use Rattle.page.proofs.write.Goals as goal
 
 pub prepare-requires : goal.prepare-requires
-prepare-requires c =
-    room_zeros
+prepare-requires c = room_zeros
