@@ -1,4 +1,4 @@
-//! The test vectors in crates/vectors/data/.
+//! The test vectors in tests/vectors/.
 
 use std::ops::Range;
 
@@ -33,7 +33,7 @@ pub struct CipherVector {
 /// Every line of cipher.txt but the comments: suite, key, tweak, block and enciphered block in hex.
 pub fn cipher_vectors() -> Vec<CipherVector> {
     let mut vectors = Vec::new();
-    for (line, fields) in cases("cipher.txt", include_str!("../../../crates/vectors/data/cipher.txt"), 5) {
+    for (line, fields) in cases("cipher.txt", include_str!("../../vectors/cipher.txt"), 5) {
         let [cipher, steps] = hex(fields[0]);
         vectors.push(CipherVector {
             line,
@@ -66,7 +66,7 @@ pub struct SealVector {
 /// and the number of calls.
 pub fn seal_vectors() -> Vec<SealVector> {
     let mut vectors = Vec::new();
-    for (line, fields) in cases("seal.txt", include_str!("../../../crates/vectors/data/seal.txt"), 7) {
+    for (line, fields) in cases("seal.txt", include_str!("../../vectors/seal.txt"), 7) {
         let [cipher, steps] = hex(fields[0]);
         vectors.push(SealVector {
             line,
@@ -101,7 +101,7 @@ pub struct OpenVector {
 /// or `refused:` and a number in place of the text.
 pub fn open_vectors() -> Vec<OpenVector> {
     let mut vectors = Vec::new();
-    for (line, fields) in cases("open.txt", include_str!("../../../crates/vectors/data/open.txt"), 6) {
+    for (line, fields) in cases("open.txt", include_str!("../../vectors/open.txt"), 6) {
         let [cipher, steps] = hex(fields[0]);
         vectors.push(OpenVector {
             line,
@@ -130,12 +130,12 @@ pub struct BookVector {
 /// Every line of book.txt but the comments: key and book in hex, then `ok:`, unit count, `:` and call
 /// total, or `refused:` and a number. The books are of the scope's kind.
 pub fn book_vectors() -> Vec<BookVector> {
-    checked("book.txt", include_str!("../../../crates/vectors/data/book.txt"))
+    checked("book.txt", include_str!("../../vectors/book.txt"))
 }
 
 /// Every line of books.txt but the comments, of the same fields. The books are of both kinds.
 pub fn books_vectors() -> Vec<BookVector> {
-    checked("books.txt", include_str!("../../../crates/vectors/data/books.txt"))
+    checked("books.txt", include_str!("../../vectors/books.txt"))
 }
 
 fn checked(name: &str, file: &str) -> Vec<BookVector> {
@@ -179,7 +179,7 @@ pub struct FetchVector {
 /// ciphertext part.
 pub fn fetch_vectors() -> Vec<FetchVector> {
     let mut vectors = Vec::new();
-    for (line, fields) in cases("fetch.txt", include_str!("../../../crates/vectors/data/fetch.txt"), 7) {
+    for (line, fields) in cases("fetch.txt", include_str!("../../vectors/fetch.txt"), 7) {
         let number = |i: usize| fields[i].parse().expect(fields[i]);
         let (answer, calls) = match fields[4].split(':').collect::<Vec<_>>()[..] {
             ["refused", number] => (Err(number.parse().expect(fields[4])), 0),
@@ -223,7 +223,7 @@ pub struct PageVector {
 /// or `refused:` and a number in place of it.
 pub fn page_vectors() -> Vec<PageVector> {
     let mut vectors = Vec::new();
-    for (line, fields) in cases("page.txt", include_str!("../../../crates/vectors/data/page.txt"), 5) {
+    for (line, fields) in cases("page.txt", include_str!("../../vectors/page.txt"), 5) {
         vectors.push(PageVector {
             line,
             key: bytes(fields[0]),
