@@ -1,5 +1,6 @@
--- What the code reads: the number of a unit's header or of a close, and the codes of a header.
+-- What the code reads: a field that is looked for, the number of a unit's header or of a close, and the codes of a header.
 use mathlib.Core.Path.{◌≡◌, sym, ap, ◌∙◌}
+use mathlib.Core.Bool.{Bool}
 use mathlib.Core.List.{List, [], ◌∷◌}
 use Prim.Native.Nat.{ℕ, ◌+◌, ◌-◌, ◌≤◌}
 use native.Mathlib.Omega.{arith}
@@ -7,6 +8,7 @@ use lib.ListN.{length, get_or, take, drop, length-take, length-drop}
 use lib.Seq.{length-take-le, take_all, take-take, take-add, drop_at, drop-drop}
 use Rattle.bits.specs.Bytes.{number_of}
 use Rattle.bits.proofs.Lists.{part_at}
+use Rattle.fields.specs.Field.{has_field}
 use Rattle.fields.specs.Kind.{Kind}
 use Rattle.fields.specs.Unit.{details_length}
 use Rattle.kinds.specs.declared.Kind.{Kind as BookKind}
@@ -14,6 +16,10 @@ use Rattle.kinds.specs.Kind.{kind_of}
 use Rattle.kinds.specs.Lengths.{header_length, close_header_length, codes_at}
 use Rattle.kinds.proofs.Formed.{two_letters}
 use Rattle.parser.specs.Frame.{frame_number, frame_details, frame_from, frame_to}
+
+-- a field that is looked for by a tag and a length
+pub field_is : {b : Bool} {tag tag' len len' : ℕ} (s : List ℕ) → b ≡ has_field tag len s → tag ≡ tag' → len ≡ len' → b ≡ has_field tag' len' s
+field_is s e t l = e ∙ (λ i. has_field (t i) (l i) s)
 
 -- the number in a header or a close, of its bytes
 pub number_is : (kind : Kind) (s : List ℕ) (end : ℕ) → end ≡ close_header_length kind → kind.number_bytes ≤ 4

@@ -4,15 +4,14 @@ use mathlib.Core.List.{◌++◌}
 use native.Mathlib.Omega.{arith}
 use lib.ListN.{take}
 use Rattle.kinds.specs.Kind.{kind_of}
-use Rattle.parser.proofs.Frames.{CloseTold, close_told}
+use Rattle.parser.proofs.Frames.{close_told}
 use Rattle.seals.specs.Seal.{close_along}
 use Rattle.seals.proofs.Verified.{parts_same, close_sealed_is}
 use Rattle.seals.proofs.close_parts.Goals as goal
 
 pub parts_at-requires : goal.parts_at-requires
 parts_at-requires c =
-    let told : CloseTold (kind_of c.args.kind) c.args.n c.args.s.now = close_told (kind_of c.args.kind) c.args.n c.args.s.now c.requires.1 in
-    let t = told in
+    let t = close_told (kind_of c.args.kind) c.args.n c.args.s.now c.requires.1 in
     let h = c.close_header_len-h.ensures in (
       c.requires.0,
       record {

@@ -6,25 +6,22 @@ use native.Mathlib.Omega.{arith}
 use borrow.Author.Rules.{rules}
 use lib.ListN.{take}
 use Rattle.kinds.specs.Kind.{kind_of}
-use Rattle.parser.proofs.Frames.{UnitTold, unit_told}
+use Rattle.parser.proofs.Frames.{unit_told}
 use Rattle.seals.specs.Seal.{unit_along}
 use Rattle.seals.proofs.Verified.{parts_same, unit_sealed_is}
 use Rattle.seals.proofs.unit_parts.Goals as goal
 
 pub overflow_add-end : goal.overflow_add-end
 overflow_add-end c =
-    let told : UnitTold (kind_of c.args.kind) c.args.n c.args.m c.args.s.now = unit_told (kind_of c.args.kind) c.args.n c.args.m c.args.s.now c.requires.1 in
-    let t = told in search rules
+    let t = unit_told (kind_of c.args.kind) c.args.n c.args.m c.args.s.now c.requires.1 in search rules
 
 pub overflow_add-end-2 : goal.overflow_add-end-2
 overflow_add-end-2 c =
-    let told : UnitTold (kind_of c.args.kind) c.args.n c.args.m c.args.s.now = unit_told (kind_of c.args.kind) c.args.n c.args.m c.args.s.now c.requires.1 in
-    let t = told in search rules
+    let t = unit_told (kind_of c.args.kind) c.args.n c.args.m c.args.s.now c.requires.1 in search rules
 
 pub parts_at-requires : goal.parts_at-requires
 parts_at-requires c =
-    let told : UnitTold (kind_of c.args.kind) c.args.n c.args.m c.args.s.now = unit_told (kind_of c.args.kind) c.args.n c.args.m c.args.s.now c.requires.1 in
-    let t = told in
+    let t = unit_told (kind_of c.args.kind) c.args.n c.args.m c.args.s.now c.requires.1 in
     let h = c.header_len.ensures in
     let a = c.ciphertext_at-start.ensures in (
       c.requires.0,

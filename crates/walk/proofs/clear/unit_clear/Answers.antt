@@ -4,31 +4,29 @@ use native.Mathlib.Omega.{arith}
 use borrow.Author.Rules.{rules}
 use Rattle.kinds.specs.Kind.{kind_of}
 use Rattle.kinds.specs.Lengths.{header_length}
-use Rattle.parser.proofs.Frames.{UnitTold, unit_told}
+use Rattle.parser.proofs.Frames.{unit_told}
 use Rattle.walk.proofs.clear.unit_clear.Goals as goal
 
 pub codes-c-requires : goal.codes-c-requires
-codes-c-requires c =
-    let told : UnitTold (kind_of c.args.kind) c.args.n c.args.m c.args.s.now = unit_told (kind_of c.args.kind) c.args.n c.args.m c.args.s.now c.requires.0 in
-    let t = told in omega (arith, t.length_is)
+codes-c-requires c = let t = unit_told (kind_of c.args.kind) c.args.n c.args.m c.args.s.now c.requires.0 in omega (arith, t.length_is)
 
 pub overflow_add-ciphertext : goal.overflow_add-ciphertext
 overflow_add-ciphertext c =
-    let told : UnitTold (kind_of c.args.kind) c.args.n c.args.m c.args.s.now = unit_told (kind_of c.args.kind) c.args.n c.args.m c.args.s.now c.requires.0 in
-    let beyond : let a = c.args in let t = header_length (kind_of a.kind) in (a.at + t + 22 + a.m < 2 ^ 64) × (a.m ≤ 8194) = let t = told in
-    (omega (arith, t.length_is, c.requires.1), t.most) in
-    let h = beyond in search rules
+    let t = unit_told (kind_of c.args.kind) c.args.n c.args.m c.args.s.now c.requires.0 in
+    let h : c.args.at + header_length (kind_of c.args.kind) + 22 + c.args.m < 2 ^ 64 = omega (arith, t.length_is, c.requires.1) in
+    let most : c.args.m ≤ 8194 = t.most in
+    search rules
 
 pub unit_len-requires : goal.unit_len-requires
 unit_len-requires c =
-    let told : UnitTold (kind_of c.args.kind) c.args.n c.args.m c.args.s.now = unit_told (kind_of c.args.kind) c.args.n c.args.m c.args.s.now c.requires.0 in
-    let beyond : let a = c.args in let t = header_length (kind_of a.kind) in (a.at + t + 22 + a.m < 2 ^ 64) × (a.m ≤ 8194) = let t = told in
-    (omega (arith, t.length_is, c.requires.1), t.most) in
-    let h = beyond in search rules
+    let t = unit_told (kind_of c.args.kind) c.args.n c.args.m c.args.s.now c.requires.0 in
+    let h : c.args.at + header_length (kind_of c.args.kind) + 22 + c.args.m < 2 ^ 64 = omega (arith, t.length_is, c.requires.1) in
+    let most : c.args.m ≤ 8194 = t.most in
+    search rules
 
 pub overflow_add-result : goal.overflow_add-result
 overflow_add-result c =
-    let told : UnitTold (kind_of c.args.kind) c.args.n c.args.m c.args.s.now = unit_told (kind_of c.args.kind) c.args.n c.args.m c.args.s.now c.requires.0 in
-    let beyond : let a = c.args in let t = header_length (kind_of a.kind) in (a.at + t + 22 + a.m < 2 ^ 64) × (a.m ≤ 8194) = let t = told in
-    (omega (arith, t.length_is, c.requires.1), t.most) in
-    let h = beyond in search rules
+    let t = unit_told (kind_of c.args.kind) c.args.n c.args.m c.args.s.now c.requires.0 in
+    let h : c.args.at + header_length (kind_of c.args.kind) + 22 + c.args.m < 2 ^ 64 = omega (arith, t.length_is, c.requires.1) in
+    let most : c.args.m ≤ 8194 = t.most in
+    search rules
