@@ -57,6 +57,7 @@ pub fn tests(s: &[u8]) -> Answer
 }
 
 // The same under a key that has to have 16 bytes. Refusals: 2; 14, 1.
+#[tactic(auto, unfolding(crate::specs::Opening::check_tests))]
 pub fn tests_under(key: &[u8], s: &[u8]) -> Answer
     ensures { result ≡ check_tests (length key.now) s.now }
 {

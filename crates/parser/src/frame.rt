@@ -71,6 +71,7 @@ fn is_pair(kind: Kind, s: &[u8]) -> bool
 }
 
 // A close, where the running number is n. Refusals: 14, 15.
+#[tactic(auto, unfolding(crate::specs::Frame::close_tests), using(fields::proofs::Values::after_is))]
 fn close_at(kind: Kind, n: u64, s: &[u8]) -> Frame
     ensures { result ≡ frame_of (close_tests (kind_of kind) n s.now) Frame.Close }
 {

@@ -1,7 +1,6 @@
 -- The eight bytes behind tag and length.
 use mathlib.Core.Path.{ap, ◌∙◌}
 use native.Mathlib.Omega.{arith}
-use borrow.Author.Rules.{rules}
 use lib.ListN.{take, drop_of_length-le}
 use Rattle.bits.specs.Bytes.{number_of}
 use Rattle.fields.specs.Field.{after_field, field_value}

@@ -1,5 +1,4 @@
 -- The suite's two bytes.
-use borrow.Author.Rules.{rules}
 use Rattle.opening_fields.specs.Opening.{opening_suite}
 use Rattle.opening_fields.proofs.suite.Goals as goal
 

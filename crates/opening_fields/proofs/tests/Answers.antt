@@ -1,7 +1,6 @@
 -- Test by test.
 use mathlib.Core.Path.{◌≡◌, ap, ◌∙◌}
 use mathlib.Core.Bool.{true}
-use borrow.Author.Rules.{rules}
 use Rattle.suites.specs.Suite.{listed}
 use Rattle.opening_fields.specs.Opening.{has_opening, opening_suite, opening_tests}
 use Rattle.fields.proofs.Values.{found, missed}

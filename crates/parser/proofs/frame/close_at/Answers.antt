@@ -1,13 +1,12 @@
 -- Test by test.
-use mathlib.Core.Path.{◌≡◌, sym, ap, ◌∙◌}
+use mathlib.Core.Path.{◌≡◌, ap, ◌∙◌}
 use Prim.Native.Nat.{◌-◌}
 use borrow.Author.Rules.{rules}
-use borrow.Author.Tests.{eq-eqb, ne_eqb}
 use lib.ListN.{length, take, drop}
 use Rattle.fields.specs.Field.{has_field, after_field}
 use Rattle.fields.proofs.Fields.{field_told}
 use Rattle.kinds.specs.Kind.{kind_of}
-use Rattle.parser.specs.Frame.{frame_number, close_tests}
+use Rattle.parser.specs.Frame.{close_tests}
 use Rattle.fields.proofs.Values.{found, missed, after_is}
 use mathlib.Core.Bool.{Bool}
 use mathlib.Core.List.{List}
@@ -55,29 +54,3 @@ number_at-count-requires c =
     let s = c.args.s.now in
     let first = found (field_is s c.has.ensures c.close_tag.ensures c.number_bytes.ensures.is) c.if-not-has.false in
     (field_told kind.close_tag kind.number_bytes s first).0
-
-pub returns-then-count-n : goal.returns-then-count-n
-unfolding close_tests
-returns-then-count-n c =
-    let kind = kind_of c.args.kind in
-    let s = c.args.s.now in
-    let n = c.args.n in
-    let first = found (field_is s c.has.ensures c.close_tag.ensures c.number_bytes.ensures.is) c.if-not-has.false in
-    rw (
-      first,
-      found (second s kind.number_bytes c.close_header_len-after.result c.has-2.result c.close_header_len-after.ensures.is c.has-2.ensures) c.if-not-has-2.false,
-      ne_eqb (frame_number kind s) n (λ q. c.if-count-n.true (c.number_at-count.ensures ∙ q)),
-    )
-
-pub returns : goal.returns
-unfolding close_tests
-returns c =
-    let kind = kind_of c.args.kind in
-    let s = c.args.s.now in
-    let n = c.args.n in
-    let first = found (field_is s c.has.ensures c.close_tag.ensures c.number_bytes.ensures.is) c.if-not-has.false in
-    rw (
-      first,
-      found (second s kind.number_bytes c.close_header_len-after.result c.has-2.result c.close_header_len-after.ensures.is c.has-2.ensures) c.if-not-has-2.false,
-      eq-eqb (frame_number kind s) n (sym c.number_at-count.ensures ∙ c.if-count-n.false),
-    )
