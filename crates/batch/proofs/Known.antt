@@ -9,15 +9,13 @@ use borrow.Author.Tests.{lt-ltb, le-ltb}
 use lib.Dec.{ltb}
 use lib.ListN.{length, take, drop, replicate}
 use lib.Seq.{paste}
-use Rattle.blockwise.specs.Blocks.{block, strung}
+use Rattle.blockwise.specs.Blocks.{block, strung, each_block}
 use Rattle.calls.specs.Calls.{header_call}
 use Rattle.calls.specs.Pieces.{header_sum}
 use Rattle.calls.specs.Tweak.{blocks_of}
-use Rattle.cipher.specs.Entry.{enciphered_blocks}
 use Rattle.suites.specs.declared.suite.Suite.{Suite}
 use Rattle.sums.specs.Sums.{sum_from}
 use Rattle.sums.proofs.Sums.{sum_ext, sum_of_lem}
-use Rattle.text_blocks.specs.Text.{Usable}
 use Rattle.text_blocks.specs.Under.{enciphers}
 use Rattle.text_blocks.proofs.Chunks.{enciphers_blockwise}
 use Rattle.mode.proofs.Headers.{sum_strung}
@@ -51,22 +49,22 @@ module _ (k : ℕ) (g : ℕ → List ℕ) (long : (i : ℕ) → length (g i) ≡
       ∙ put_more k (followed k g b) buffer (λ i h. followed-long i) b l (behind k g b)
 
 -- the header's calls alone
-pub sum_alone : (s : Suite) (key : List ℕ) {nonce : List ℕ} → Usable s nonce → (h x y : List ℕ) {o : List ℕ} → 16 * blocks_of (length h) ≤ length y
+pub sum_alone : (s : Suite) (key nonce : List ℕ) → length nonce ≤ 15 → (h x y : List ℕ) {o : List ℕ} → 16 * blocks_of (length h) ≤ length y
     → let k = blocks_of (length h) in
-    o ≡ enciphered_blocks s.cipher s.steps key (take (16 * k) (put_first k (tweak_at nonce h) x)) (put_first k (block_at nonce h) y)
+    o ≡ each_block (enciphers s key) (take (16 * k) (put_first k (tweak_at nonce h) x)) (put_first k (block_at nonce h) y)
     → sum_from (replicate 16 0) (length (take (16 * k) o) / 16) (block (take (16 * k) o)) ≡ header_sum (enciphers s key) nonce h
 unfolding put_first header_sum header_call
-sum_alone s key {nonce} u h x y {o} room e =
+sum_alone s key nonce short h x y {o} room e =
     let k = blocks_of (length h) in
     let call : ℕ → List ℕ = λ i. enciphers s key (tweak_at nonce h i) (block_at nonce h i) in
-    let long : (i : ℕ) → length (tweak_at nonce h i) ≡ 16 = tweak_long nonce h u.short in
+    let long : (i : ℕ) → length (tweak_at nonce h i) ≡ 16 = tweak_long nonce h short in
     sum_strung (replicate 16 0) k call (drop (16 * k) y) o
     (λ i m. (enciphers_blockwise s key).long (tweak_at nonce h i) (block_at nonce h i) (long i) (block_whole nonce h i))
-    (e ∙ put_enciphered s key u.suite k (tweak_at nonce h) (block_at nonce h) x y long (λ i m. block_whole nonce h i) room)
+    (e ∙ put_enciphered s key k (tweak_at nonce h) (block_at nonce h) x y long (λ i m. block_whole nonce h i) room)
     ∙ sum_of_lem k call
 
 -- and one more behind them
-module _ (s : Suite) (key : List ℕ) {nonce : List ℕ} (u : Usable s nonce) (h tweak b : List ℕ) (tl : length tweak ≡ 16) (bl : length b ≡ 16) where
+module _ (s : Suite) (key nonce : List ℕ) (short : length nonce ≤ 15) (h tweak b : List ℕ) (tl : length tweak ≡ 16) (bl : length b ≡ 16) where
   abbrev k : ℕ
   k = blocks_of (length h)
 
@@ -81,7 +79,7 @@ module _ (s : Suite) (key : List ℕ) {nonce : List ℕ} (u : Usable s nonce) (h
   outs i = enciphers s key (tweaks i) (blocks i)
 
   tweaks-long : (i : ℕ) → length (tweaks i) ≡ 16
-  tweaks-long = followed-long k (tweak_at nonce h) (tweak_long nonce h u.short) tweak tl
+  tweaks-long = followed-long k (tweak_at nonce h) (tweak_long nonce h short) tweak tl
 
   blocks-long : (i : ℕ) → length (blocks i) ≡ 16
   blocks-long = followed-long k (block_at nonce h) (block_whole nonce h) b bl
@@ -91,15 +89,15 @@ module _ (s : Suite) (key : List ℕ) {nonce : List ℕ} (u : Usable s nonce) (h
   outs-long i = (enciphers_blockwise s key).long (tweaks i) (blocks i) (tweaks-long i) (blocks-long i)
 
   pub run_is : (x y : List ℕ) → 16 * k + 16 ≤ length y
-      → enciphered_blocks s.cipher s.steps key
+      → each_block (enciphers s key)
       (take (16 * k + 16) (paste (put_first k (tweak_at nonce h) x) (16 * k) tweak 16)) (paste (put_first k (block_at nonce h) y) (16 * k) b 16)
       ≡ put_first (k + 1) outs y
   unfolding outs
   run_is x y room =
       let n : 16 * k + 16 ≡ 16 * (k + 1) = omega arith in
-      let t = put-behind k (tweak_at nonce h) (tweak_long nonce h u.short) tweak tl x in
-      (λ j. enciphered_blocks s.cipher s.steps key (take (n j) (t j)) (put-behind k (block_at nonce h) (block_whole nonce h) b bl y j))
-      ∙ put_enciphered s key u.suite (k + 1) tweaks blocks x y tweaks-long (λ i m. blocks-long i) (omega arith)
+      let t = put-behind k (tweak_at nonce h) (tweak_long nonce h short) tweak tl x in
+      (λ j. each_block (enciphers s key) (take (n j) (t j)) (put-behind k (block_at nonce h) (block_whole nonce h) b bl y j))
+      ∙ put_enciphered s key (k + 1) tweaks blocks x y tweaks-long (λ i m. blocks-long i) (omega arith)
 
   pub sum_is : (y : List ℕ)
       → sum_from (replicate 16 0) (length (take (16 * k) (put_first (k + 1) outs y)) / 16) (block (take (16 * k) (put_first (k + 1) outs y)))

@@ -2,7 +2,7 @@
 use mathlib.Core.Path.{◌≡◌, refl, sym, ap, ◌∙◌}
 use mathlib.Core.Bool.{Bool, true, false, cond}
 use mathlib.Core.List.{List, [], ◌++◌, append_assoc, append-nil}
-use Prim.Native.Nat.{ℕ, ◌+◌, ◌-◌, ◌*◌, ◌/◌, ◌≤◌, ◌<◌, min}
+use Prim.Native.Nat.{ℕ, ◌+◌, ◌-◌, ◌*◌, ◌/◌, ◌≤◌, ◌<◌}
 use native.Mathlib.Nat.{le_of_eq}
 use native.Mathlib.Omega.{arith}
 use lib.ListN.{length, take, drop, replicate, length-append, length-drop}
@@ -16,8 +16,6 @@ use Rattle.calls.specs.Calls.{header_call, length_block, sum_of}
 use Rattle.calls.specs.Pieces.{piece, through, header_sum, tag_from}
 use Rattle.calls.specs.Tweak.{text_tweak, special_tweak, blocks_of, inner, last_text_mark, tag_mark}
 use Rattle.calls.proofs.Tweaks.{length_tweak}
-use Rattle.cipher.specs.Entry.{enciphered_blocks}
-use Rattle.suites.specs.Suite.{listed}
 use Rattle.suites.specs.declared.suite.Suite.{Suite}
 use Rattle.sums.specs.Sums.{sum_from}
 use Rattle.sums.proofs.Sums.{part_none, sum_ext, sum_of_lem}
@@ -34,21 +32,22 @@ module _ (k n : ℕ) (g f : ℕ → List ℕ) (b : List ℕ) (lg : (i : ℕ) →
   both_long : length (strung k g ++ strung n f) ≡ 16 * k + 16 * n
   both_long = length-append (strung k g) (strung n f) ∙ omega (arith, strung_whole k g lg, strung_whole n f lf)
 
-  -- they are put so: x has the k, up to `at`, y has the n, where x went on, up to `end`
-  pub in_turn : (at end : ℕ) → at ≡ 16 * k → end ≡ at + 16 * n → (buffer x y : List ℕ)
-      → x ≡ put_first k g buffer → y ≡ put_first n f (take (length x - at) (drop at x))
-      → paste (take at x ++ (y ++ drop (length x - at) (drop at x))) end b 16 ≡ strung k g ++ strung n f ++ b ++ drop (16 * (k + n + 1)) buffer
+  -- they are put so: x, of `size` bytes, has the k, up to `at`, y has the n, where x went on, up to `end`
+  pub in_turn : (at end : ℕ) → at ≡ 16 * k → end ≡ at + 16 * n → (size : ℕ) (buffer x y : List ℕ) → size ≡ length x
+      → x ≡ put_first k g buffer → y ≡ put_first n f (take (size - at) (drop at x))
+      → paste (take at x ++ (y ++ drop (size - at) (drop at x))) end b 16 ≡ strung k g ++ strung n f ++ b ++ drop (16 * (k + n + 1)) buffer
   unfolding put_first
-  in_turn at end is_at is-end buffer x y ex ey =
+  in_turn at end is_at is-end size buffer x y all_of ex ey =
       let rest = drop (16 * n) (drop (16 * k) buffer) in
       let front : take at x ≡ strung k g = (λ j. take (is_at j) (ex j)) ∙ put_front k g buffer lg in
       let tail : drop at x ≡ drop (16 * k) buffer = (λ j. drop (is_at j) (ex j)) ∙ put_rest k g buffer lg in
-      let second : y ≡ strung n f ++ rest = ey ∙ ap (put_first n f) (part_rest at x ∙ tail) in
+      let second : y ≡ strung n f ++ rest = ey ∙ ap (put_first n f) (ap (λ (j : ℕ). take (j - at) (drop at x)) all_of ∙ part_rest at x ∙ tail) in
+      let none : drop (size - at) (drop at x) ≡ [] = ap (λ (j : ℕ). drop (j - at) (drop at x)) all_of ∙ part_none at x in
       let place : end ≡ 16 * k + 16 * n = omega arith in
       let all : 16 * k + 16 * n + 16 ≡ 16 * (k + n + 1) = omega arith in
       let behind : drop 16 rest ≡ drop (16 * (k + n + 1)) buffer =
       ap (drop 16) (drop-drop (16 * n) (16 * k) buffer) ∙ drop-drop 16 (16 * k + 16 * n) buffer ∙ ap (λ (j : ℕ). drop j buffer) all in
-      (λ j. paste (front j ++ (second j ++ part_none at x j)) (place j) b 16)
+      (λ j. paste (front j ++ (second j ++ none j)) (place j) b 16)
       ∙ ap (λ (z : List ℕ). paste z (16 * k + 16 * n) b 16)
       (ap (λ (z : List ℕ). strung k g ++ z) (append-nil (strung n f ++ rest)) ∙ sym (append_assoc (strung k g) (strung n f) rest))
       ∙ pasted_behind (strung k g ++ strung n f) rest b (16 * k + 16 * n) both_long lb
@@ -78,19 +77,6 @@ module _ (k n : ℕ) (g f : ℕ → List ℕ) (b : List ℕ) (lg : (i : ℕ) →
         (λ j. take 16 (drop (at j) ((is ∙ append_assoc (strung k g ++ strung n f) b rest) j)))
         ∙ ap (take 16) (drop_at (strung k g ++ strung n f) (b ++ rest) (16 * k + 16 * n) both_long)
         ∙ take_at b rest 16 lb
-
--- each whole block under its own tweak
-module _ (s : Suite) (key : List ℕ) (l : listed s.cipher s.steps ≡ true) (t b : List ℕ) where
-  each-is : enciphered_blocks s.cipher s.steps key t b ≡ each_block (enciphers s key) t b
-  unfolding enciphered_blocks
-  each-is = ap (λ (c : Bool). cond c (each_block (enciphers s key) t b) b) l
-
-  enciphered-long : length (enciphered_blocks s.cipher s.steps key t b) ≡ length b
-  enciphered-long = ap length each-is ∙ length_of_each (enciphers s key) (enciphers_blockwise s key) t b
-
-  enciphered-block : (i : ℕ) → i < min (length t) (length b) / 16
-      → block (enciphered_blocks s.cipher s.steps key t b) i ≡ enciphers s key (block t i) (block b i)
-  enciphered-block i h = ap (λ (x : List ℕ). block x i) each-is ∙ block_of_each (enciphers s key) (enciphers_blockwise s key) t b i h
 
 -- blocks by their number, added up
 sum_blocks : (k : ℕ) (x : List ℕ) (g : ℕ → List ℕ) → 16 * k ≤ length x → ((i : ℕ) → i < k → block x i ≡ g i)
@@ -158,24 +144,24 @@ module _ (nonce : List ℕ) (short : length nonce ≤ 15) (h check : List ℕ) (
 
   -- the places behind the header's calls and behind the text's
   module _ (at-text at_tag : ℕ) (text_there : at-text ≡ 16 * k) (tag-there : at_tag ≡ at-text + 16 * n) where
-    pub tweaks_in_turn : (buffer x y : List ℕ) → x ≡ put_first k header_tweaks buffer
-        → y ≡ put_first n text_tweaks (take (length x - at-text) (drop at-text x))
-        → paste (take at-text x ++ (y ++ drop (length x - at-text) (drop at-text x))) at_tag tag_tweak 16
+    pub tweaks_in_turn : (size : ℕ) (buffer x y : List ℕ) → size ≡ length x → x ≡ put_first k header_tweaks buffer
+        → y ≡ put_first n text_tweaks (take (size - at-text) (drop at-text x))
+        → paste (take at-text x ++ (y ++ drop (size - at-text) (drop at-text x))) at_tag tag_tweak 16
         ≡ strung k header_tweaks ++ strung n text_tweaks ++ tag_tweak ++ drop (16 * (k + n + 1)) buffer
     tweaks_in_turn =
         in_turn k n header_tweaks text_tweaks tag_tweak header-tweak-long next-tweak-long tag-tweak-long at-text at_tag text_there tag-there
 
-    pub blocks_in_turn : (buffer x y : List ℕ) → x ≡ put_first k header_blocks buffer
-        → y ≡ put_first n text_blocks (take (length x - at-text) (drop at-text x))
-        → paste (take at-text x ++ (y ++ drop (length x - at-text) (drop at-text x))) at_tag check 16
+    pub blocks_in_turn : (size : ℕ) (buffer x y : List ℕ) → size ≡ length x → x ≡ put_first k header_blocks buffer
+        → y ≡ put_first n text_blocks (take (size - at-text) (drop at-text x))
+        → paste (take at-text x ++ (y ++ drop (size - at-text) (drop at-text x))) at_tag check 16
         ≡ strung k header_blocks ++ strung n text_blocks ++ check ++ drop (16 * (k + n + 1)) buffer
     blocks_in_turn = in_turn k n header_blocks text_blocks check header-block-long next-block-long whole at-text at_tag text_there tag-there
 
     -- of the tweaks x and the blocks y, the outcomes o
-    module _ (s : Suite) (key : List ℕ) (l : listed s.cipher s.steps ≡ true) (x y o behind-x behind-y : List ℕ)
+    module _ (s : Suite) (key : List ℕ) (x y o behind-x behind-y : List ℕ)
         (tweaks : x ≡ strung k header_tweaks ++ strung n text_tweaks ++ tag_tweak ++ behind-x)
         (blocks : y ≡ strung k header_blocks ++ strung n text_blocks ++ check ++ behind-y)
-        (run : o ≡ enciphered_blocks s.cipher s.steps key (take (at_tag + 16) x) y)
+        (run : o ≡ each_block (enciphers s key) (take (at_tag + 16) x) y)
         (room-x : at_tag + 16 ≤ length x) (room-y : at_tag + 16 ≤ length y) where
       abbrev e : List ℕ → List ℕ → List ℕ
       e = enciphers s key
@@ -185,13 +171,13 @@ module _ (nonce : List ℕ) (short : length nonce ≤ 15) (h check : List ℕ) (
       part = take (at_tag - at-text) (drop at-text o)
 
       outcomes-long : length o ≡ length y
-      outcomes-long = ap length run ∙ enciphered-long s key l (take (at_tag + 16) x) y
+      outcomes-long = ap length run ∙ length_of_each (enciphers s key) (enciphers_blockwise s key) (take (at_tag + 16) x) y
 
       outcome : (i : ℕ) → i < k + n + 1 → block o i ≡ e (block x i) (block y i)
       outcome i h =
           let all : at_tag + 16 ≡ 16 * (k + n + 1) = omega arith in
-          ap (λ (z : List ℕ). block z i) (run ∙ ap (λ (j : ℕ). enciphered_blocks s.cipher s.steps key (take j x) y) all)
-          ∙ enciphered-block s key l (take (16 * (k + n + 1)) x) y i (omega (arith, length-take-le (16 * (k + n + 1)) x (omega arith)))
+          ap (λ (z : List ℕ). block z i) (run ∙ ap (λ (j : ℕ). each_block (enciphers s key) (take j x) y) all)
+          ∙ block_of_each (enciphers s key) (enciphers_blockwise s key) (take (16 * (k + n + 1)) x) y i (omega (arith, length-take-le (16 * (k + n + 1)) x (omega arith)))
           ∙ ap (λ (z : List ℕ). e z (block y i)) (block_taken (k + n + 1) x (omega arith) i h)
 
       first-outcome : (i : ℕ) → i < k → block o i ≡ e (header_tweaks i) (header_blocks i)

@@ -7,15 +7,15 @@ ghost use Rattle.batch.specs.Batch.{put_first, text_tweak_of, text_block_of};
 
 use block_numbers::TextBlock;
 
-// Of the rest s of a text of m bytes, from block `first` on: the calls' tweaks and blocks at the start of two buffers.
-pub fn put(nonce: &[u8], m: usize, first: TextBlock, s: &[u8], tweaks: &mut [u8], blocks: &mut [u8])
+// Of the rest s of a text, from block `first` on: the calls' tweaks and blocks at the start of two buffers. Whole blocks stand before the rest, so
+// that its last block is full where the text's is.
+pub fn put(nonce: &[u8], first: TextBlock, s: &[u8], tweaks: &mut [u8], blocks: &mut [u8])
     requires { (length nonce.now ≤ 15)
-        × (m ≤ 2 ^ 24)
-        × (16 * first.0 + length s.now ≡ m)
+        × (first.0 + blocks_of (length s.now) ≤ 2 ^ 32)
         × (16 * blocks_of (length s.now) ≤ length tweaks.old)
         × (16 * blocks_of (length s.now) ≤ length blocks.old) }
-    ensures { (tweaks.new
-        ≡ put_first (blocks_of (length s.now)) (λ i. text_tweak_of nonce.now m (first.0 + i)) tweaks.old)
+    ensures { let m = 16 * first.0 + length s.now in
+        (tweaks.new ≡ put_first (blocks_of (length s.now)) (λ i. text_tweak_of nonce.now m (first.0 + i)) tweaks.old)
         × (blocks.new
         ≡ put_first (blocks_of (length s.now)) (λ i. text_block_of m (first.0 + i) (block s.now i)) blocks.old) }
 {
@@ -29,18 +29,17 @@ pub fn put(nonce: &[u8], m: usize, first: TextBlock, s: &[u8], tweaks: &mut [u8]
     blockwise::put_at(
         tweaks,
         at,
-        tweak::special_tweak(nonce, text_blocks::marks::last_text_mark(m)),
+        tweak::special_tweak(nonce, text_blocks::marks::last_text_mark(n)),
     );
     blockwise::copy(&s[..at], blocks);
     blockwise::put_at(blocks, at, text_blocks::length_block(n - at));
 }
 
-// What the calls gave, put in the text's place: a block that is not last becomes its outcome; to the last one its outcome is added.
-pub fn place(m: usize, first: TextBlock, s: &mut [u8], outcomes: &[u8])
-    requires { (16 * first.0 + length s.old ≡ m)
-        × (16 * blocks_of (length s.old) ≤ length outcomes.now) }
+// What the calls gave, put in the place of a text's rest: a block that is not last becomes its outcome; to the last one its outcome is added.
+pub fn place(s: &mut [u8], outcomes: &[u8])
+    requires { 16 * blocks_of (length s.old) ≤ length outcomes.now }
     ensures { s.new ≡ strung (blocks_of (length s.old))
-        (λ i. cond (inner m (first.0 + i)) (block outcomes.now i) (added (block s.old i) (block outcomes.now i))) }
+        (λ i. cond (inner (length s.old) i) (block outcomes.now i) (added (block s.old i) (block outcomes.now i))) }
 {
     let n = s.len();
     if n == 0 {

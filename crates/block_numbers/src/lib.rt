@@ -1,5 +1,6 @@
 // The numbers of blocks: of a text and of a header, "two separate counts from 0". Each is a type of its own, of 32 bits, and only here is
 // one made: a count begins at `start` and goes on by `after`, so that the number of the one is not taken for that of the other by mistake.
+// The scope's form: two tuple structs around a number.
 #![tactic(auto)]
 
 ghost use Rattle.std.specs.Prelude.{◌≡◌, ◌+◌, ◌*◌, ◌^◌, ◌<◌};

@@ -6,8 +6,9 @@ use native.Mathlib.Decide.{ℕ_discrete}
 use native.Mathlib.Nat.{le_of_eq, add-zero, add-suc}
 use native.Mathlib.Numerals.{add-one}
 use native.Mathlib.Omega.{arith}
-use lib.ListN.{length, take, drop, length-append, length-drop, drop_of_length-le, take-append-drop}
+use lib.ListN.{length, get_or, take, drop, length-append, length-drop, drop_of_length-le, take-append-drop}
 use lib.Seq.{paste, take_at, drop_at, drop-drop, take_all, take-append-le, drop-append-le, length-take-le}
+use Rattle.std.specs.Simd.{first_chunks}
 use Rattle.blockwise.specs.Blocks.{block, strung, each_of, each_block}
 
 -- a function that makes a block of two blocks
@@ -22,6 +23,14 @@ pub block_later : (k i : ℕ) (x : List ℕ) → block (drop (16 * k) x) i ≡ b
 block_later k i x =
     let at : 16 * k + 16 * i ≡ 16 * (k + i) = omega arith in
     ap (take 16) (drop-drop (16 * i) (16 * k) x ∙ ap (λ (j : ℕ). drop j x) at)
+
+-- the blocks that `as_chunks` gives
+pub chunk_block : (n : ℕ) (s : List ℕ) (i : ℕ) (d : List ℕ) → i < n → get_or (first_chunks 16 n s) i d ≡ block s i
+chunk_block zero s i d h = absurd (omega arith)
+chunk_block (suc n) s zero d h = refl
+chunk_block (suc n) s (suc i) d h =
+    let next : 1 + i ≡ suc i = omega arith in
+    chunk_block n (drop 16 s) i d (omega arith) ∙ block_later 1 i s ∙ ap (block s) next
 
 -- a block within the first of two strings, and one of a front
 pub block_append : (x y : List ℕ) (i : ℕ) → 16 * i + 16 ≤ length x → block (x ++ y) i ≡ block x i

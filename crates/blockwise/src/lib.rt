@@ -8,7 +8,7 @@ ghost use Rattle.std.proofs.Math.Seq.{paste};
 pub fn whole(a: usize, b: usize) -> usize
     ensures { result ≡ min a b / 16 }
 {
-    if a < b { a / 16 } else { b / 16 }
+    a.min(b) / 16
 }
 
 // The block that stands at a place of a slice; for the crates above, which know that it is there.
@@ -17,11 +17,7 @@ pub fn block_at(s: &[u8], at: usize) -> [u8; 16]
     ensures { result ≡ take 16 (drop at s.now) }
 {
     let mut b = [0u8; 16];
-    let mut i: usize = 0;
-    while i < 16 {
-        b[i] = s[at + i];
-        i += 1;
-    }
+    b.copy_from_slice(&s[at..at + 16]);
     b
 }
 
@@ -30,11 +26,7 @@ pub fn put_at(d: &mut [u8], at: usize, b: [u8; 16])
     requires { at + 16 ≤ length d.old }
     ensures { d.new ≡ paste d.old at b 16 }
 {
-    let mut i: usize = 0;
-    while i < 16 {
-        d[at + i] = b[i];
-        i += 1;
-    }
+    d[at..at + 16].copy_from_slice(&b);
 }
 
 // The bytes of s at the start of d; likewise.
@@ -42,10 +34,5 @@ pub fn copy(s: &[u8], d: &mut [u8])
     requires { length s.now ≤ length d.old }
     ensures { d.new ≡ s.now ++ drop (length s.now) d.old }
 {
-    let n = s.len();
-    let mut i: usize = 0;
-    while i < n {
-        d[i] = s[i];
-        i += 1;
-    }
+    d[..s.len()].copy_from_slice(s);
 }

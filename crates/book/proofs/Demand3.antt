@@ -1,4 +1,5 @@
 -- Demand 3 holds: of each kind by the writer's half and the checker's, and check takes a book by its own kind.
+use Rattle.suites.specs.Answer.{Answer}
 use mathlib.Core.Path.{◌≡◌, refl, sym, ap, subst, ◌∙◌}
 use mathlib.Core.Bool.{Bool, true}
 use mathlib.Core.List.{List, [], ◌∷◌, map}
@@ -6,7 +7,6 @@ use Prim.Native.Nat.{ℕ, ◌<◌}
 use native.Mathlib.Omega.{arith}
 use lib.ListN.{length, get_or}
 use Rattle.bits.specs.Bytes.{Bytes}
-use Rattle.suites.specs.declared.refusal.Answer.{Answer}
 use Rattle.suites.specs.Told.{Told, gives, told}
 use Rattle.fields.specs.Each.{Each, none, more, EachFrom, none_from, more_from}
 use Rattle.fields.specs.Kind.{Kind, WellFormed}

@@ -1,4 +1,8 @@
 -- Check where units are many: kinds whose numbers end below the reader's limit, and one whose numbers go on.
+use Rattle.suites.specs.Answer.{Answer}
+use Rattle.parser.specs.FrameAnswer.{FrameAnswer}
+use Rattle.parser.specs.declared.frame.Frame.TheVariants.{Close, Unit}
+use Rattle.std.specs.Prelude.{Ok, Err}
 use mathlib.Core.Path.{◌≡◌, refl, sym, ap, subst, ◌∙◌}
 use mathlib.Core.Bool.{Bool, true, false, ◌&&◌, cond, and-eq-true_iff}
 use mathlib.Core.List.{List, [], ◌∷◌, ◌++◌, append_assoc}
@@ -11,8 +15,6 @@ use lib.Dec.{eqb, ltb}
 use lib.ListN.{length}
 use Rattle.bits.specs.Bytes.{Bytes}
 use Rattle.bits.proofs.Bytes.{bytes_drop}
-use Rattle.suites.specs.declared.refusal.Answer.{Answer}
-use Rattle.suites.specs.declared.refusal.Answer.TheVariants.{Done, Refused}
 use Rattle.suites.specs.declared.refusal.Refusal.{Refusal}
 use Rattle.suites.specs.declared.refusal.Refusal.TheVariants.{
   SuiteNotListed,
@@ -42,8 +44,6 @@ use Rattle.kinds.specs.Lengths.{header_bytes, unit_calls, close_calls}
 use Rattle.kinds.proofs.Formed.{formed, by_header}
 use Rattle.format.specs.Layout.{units_bytes, unit_bytes}
 use Rattle.format.specs.Sealings.{opening_fields, unit_header}
-use Rattle.parser.specs.declared.frame.Frame.{Frame}
-use Rattle.parser.specs.declared.frame.Frame.TheVariants.{Unit, Close, Refused as FrameRefused}
 use Rattle.parser.specs.Frame.{
   most_units,
   frame_number,
@@ -63,9 +63,7 @@ use Rattle.opening_fields.specs.Opening.{has_opening, opening_number, opening_su
 use Rattle.parser.proofs.Frames.{number_fits, no_header}
 use Rattle.opening_fields.proofs.Openings.{front_says}
 use Rattle.seals.specs.Seal.{unit_agrees, unit_opened, close_agrees, unit_seal_tests, close_seal_tests}
-use Rattle.checker.specs.Check.{check_told, with_seal, checked_at, by_frame, check_from, after_tests, check_answer_of, check_answer}
-use Rattle.checker.specs.declared.check.CheckAnswer.{CheckAnswer}
-use Rattle.checker.specs.declared.check.CheckAnswer.TheVariants.{Accepted, Refused as CheckRefused}
+use Rattle.checker.specs.Check.{check_told, with_seal, checked_at, by_frame, check_from, after_tests, check_answer_of, check_answer, CheckAnswer, accepted}
 use Rattle.checker.proofs.BookKinds.{behind}
 use Rattle.checker.proofs.Exact.{opens}
 use Rattle.checker.proofs.From.{from_step}
@@ -74,12 +72,12 @@ use Rattle.book.specs.Limits.{ManyUnits, units_then, header_there, close_there, 
 
 -- an answer that is not 13
 abbrev Other : Answer → Type 0
-Other a = (why : Refusal) → a ≡ Refused why → number why ≢ 13
+Other a = (why : Refusal) → a ≡ Err why → number why ≢ 13
 
-other_done : Other Done
+other_done : Other (Ok tt)
 other_done why e = let z : ◌≡◌ {A = ℕ} 0 1 = cc in absurd (omega arith)
 
-other_refused : (why : Refusal) → number why ≢ 13 → Other (Refused why)
+other_refused : (why : Refusal) → number why ≢ 13 → Other (Err why)
 other_refused why h w e = let same : why ≡ w = cc in λ q. h (ap number same ∙ q)
 
 other_unless : (ok : Bool) (why : Refusal) (rest : Answer) → number why ≢ 13 → Other rest → Other (unless ok why rest)
@@ -87,17 +85,17 @@ other_unless true why rest h o = o
 other_unless false why rest h o = other_refused why h
 
 -- a frame that is not 13
-abbrev OtherFrame : Frame → Type 0
-OtherFrame f = (why : Refusal) → f ≡ FrameRefused why → number why ≢ 13
+abbrev OtherFrame : FrameAnswer → Type 0
+OtherFrame f = (why : Refusal) → f ≡ Err why → number why ≢ 13
 
-other_frame : (a : Answer) (f : Frame) → Other a → OtherFrame f → OtherFrame (frame_of a f)
-other_frame Done f o h = h
-other_frame (Refused why) f o h = λ w e. let same : why ≡ w = cc in o w (ap Refused same)
+other_frame : (a : Answer) (f : FrameAnswer) → Other a → OtherFrame f → OtherFrame (frame_of a f)
+other_frame (Ok tt) f o h = h
+other_frame (Err why) f o h = λ w e. let same : why ≡ w = cc in o w (ap Err same)
 
-other_unit : (m : ℕ) → OtherFrame (Unit m)
+other_unit : (m : ℕ) → OtherFrame (Ok (Unit m))
 other_unit m why e = let z : ◌≡◌ {A = ℕ} 0 1 = cc in absurd (omega arith)
 
-other_close : OtherFrame Close
+other_close : OtherFrame (Ok Close)
 other_close why e = let z : ◌≡◌ {A = ℕ} 0 1 = cc in absurd (omega arith)
 
 module _ (kind : Kind) (key o : List ℕ) (n : ℕ) (s : List ℕ) where
@@ -123,9 +121,9 @@ module _ (kind : Kind) (key o : List ℕ) (n : ℕ) (s : List ℕ) where
   frame-other few = by (begins_close kind s)
     where
       by : (v : Bool)
-          → OtherFrame (cond v (frame_of (close_tests kind n s) Close) (frame_of (unit_tests kind n s) (Unit (field_length (after_header kind s)))))
-      by true = other_frame (close_tests kind n s) Close close_other other_close
-      by false = other_frame (unit_tests kind n s) (Unit (field_length (after_header kind s))) (unit-other few) (other_unit _)
+          → OtherFrame (cond v (frame_of (close_tests kind n s) (Ok Close)) (frame_of (unit_tests kind n s) (Ok (Unit (field_length (after_header kind s))))))
+      by true = other_frame (close_tests kind n s) (Ok Close) close_other other_close
+      by false = other_frame (unit_tests kind n s) (Ok (Unit (field_length (after_header kind s)))) (unit-other few) (other_unit _)
 
   -- nor is its seal
   unit-seal : (m : ℕ) → Other (unit_seal_tests kind key o n m s)
@@ -144,10 +142,10 @@ module _ (kind : Kind) (key o : List ℕ) (n : ℕ) (s : List ℕ) where
   unfolding checked_at
   checked-other few = by (frame_at kind n s) (frame-other few)
     where
-      by : (f : Frame) → OtherFrame f → OtherFrame (with_seal f (λ (m : ℕ). unit_seal_tests kind key o n m s) (close_seal_tests kind key o n s))
-      by (Unit m) h = other_frame (unit_seal_tests kind key o n m s) (Unit m) (unit-seal m) (other_unit m)
-      by Close h = other_frame (close_seal_tests kind key o n s) Close close-seal other_close
-      by (FrameRefused why) h = h
+      by : (f : FrameAnswer) → OtherFrame f → OtherFrame (with_seal f (λ (m : ℕ). unit_seal_tests kind key o n m s) (close_seal_tests kind key o n s))
+      by (Ok (Unit m)) h = other_frame (unit_seal_tests kind key o n m s) (Ok (Unit m)) (unit-seal m) (other_unit m)
+      by (Ok Close) h = other_frame (close_seal_tests kind key o n s) (Ok Close) close-seal other_close
+      by (Err why) h = h
 
 -- what begins with a unit's header does not begin as a close
 header_begins : (kind : Kind) → WellFormed kind → (s : List ℕ) → header_there kind s ≡ true → begins_close kind s ≡ false
@@ -166,14 +164,14 @@ module _ (kind : Kind) (n : ℕ) (s : List ℕ) (b : Bytes s) (past : 256 ^ kind
   differs : 3 + kind.number_bytes ≤ length s → eqb (frame_number kind s) n ≡ false
   differs long = let fits = number_fits kind s long b in ne_eqb (frame_number kind s) n (λ e. omega arith)
 
-  past-unit : (v : Bool) → header_there kind s ≡ v → unit_tests kind n s ≡ Refused (past_refusal v)
+  past-unit : (v : Bool) → header_there kind s ≡ v → unit_tests kind n s ≡ Err (past_refusal v)
   unfolding unit_tests
   past-unit true e =
       let long = (field_told kind.header_tag (header_bytes kind) s e).0 in
       rw (e, lt-ltb n most_units few, differs (omega arith)) refl
   past-unit false e = rw e refl
 
-  past-close : (v : Bool) → close_there kind s ≡ v → close_tests kind n s ≡ Refused (past_refusal v)
+  past-close : (v : Bool) → close_there kind s ≡ v → close_tests kind n s ≡ Err (past_refusal v)
   unfolding close_tests
   past-close true e =
       let both = (and-eq-true_iff (has_field kind.close_tag kind.number_bytes s) (has_field 0x12 16 (after_field kind.number_bytes s))).0 e in
@@ -181,25 +179,25 @@ module _ (kind : Kind) (n : ℕ) (s : List ℕ) (b : Bytes s) (past : 256 ^ kind
       rw (e, differs long) refl
   past-close false e = rw e refl
 
-  past-frame : frame_at kind n s ≡ FrameRefused (past_refusal (cond (begins_close kind s) (close_there kind s) (header_there kind s)))
+  past-frame : frame_at kind n s ≡ Err (past_refusal (cond (begins_close kind s) (close_there kind s) (header_there kind s)))
   unfolding frame_at
   past-frame = by (begins_close kind s)
     where
       by : (v : Bool)
-          → cond v (frame_of (close_tests kind n s) Close) (frame_of (unit_tests kind n s) (Unit (field_length (after_header kind s))))
-          ≡ FrameRefused (past_refusal (cond v (close_there kind s) (header_there kind s)))
-      by true = ap (λ (a : Answer). frame_of a Close) (past-close (close_there kind s) refl)
-      by false = ap (λ (a : Answer). frame_of a (Unit (field_length (after_header kind s)))) (past-unit (header_there kind s) refl)
+          → cond v (frame_of (close_tests kind n s) (Ok Close)) (frame_of (unit_tests kind n s) (Ok (Unit (field_length (after_header kind s)))))
+          ≡ Err (past_refusal (cond v (close_there kind s) (header_there kind s)))
+      by true = ap (λ (a : Answer). frame_of a (Ok Close)) (past-close (close_there kind s) refl)
+      by false = ap (λ (a : Answer). frame_of a (Ok (Unit (field_length (after_header kind s))))) (past-unit (header_there kind s) refl)
 
   past-checked : (key o : List ℕ)
-      → checked_at kind key o n s ≡ FrameRefused (past_refusal (cond (begins_close kind s) (close_there kind s) (header_there kind s)))
+      → checked_at kind key o n s ≡ Err (past_refusal (cond (begins_close kind s) (close_there kind s) (header_there kind s)))
   unfolding checked_at
-  past-checked key o = ap (λ (f : Frame). with_seal f (λ (m : ℕ). unit_seal_tests kind key o n m s) (close_seal_tests kind key o n s)) past-frame
+  past-checked key o = ap (λ (f : FrameAnswer). with_seal f (λ (m : ℕ). unit_seal_tests kind key o n m s) (close_seal_tests kind key o n s)) past-frame
 
 -- check of a kind whose numbers end below the reader's limit
 module _ (kind : Kind) (small : 256 ^ kind.number_bytes < most_units) (key o : List ℕ) where
   -- a unit is there, so its number has room
-  unit-fits : (n m : ℕ) (s : List ℕ) → Bytes s → n ≤ 256 ^ kind.number_bytes → checked_at kind key o n s ≡ Unit m → n < 256 ^ kind.number_bytes
+  unit-fits : (n m : ℕ) (s : List ℕ) → Bytes s → n ≤ 256 ^ kind.number_bytes → checked_at kind key o n s ≡ Ok (Unit m) → n < 256 ^ kind.number_bytes
   unit-fits n m s b in-room e = of (ltb n (256 ^ kind.number_bytes)) refl
     where
       of : (v : Bool) → ltb n (256 ^ kind.number_bytes) ≡ v → n < 256 ^ kind.number_bytes
@@ -208,12 +206,12 @@ module _ (kind : Kind) (small : 256 ^ kind.number_bytes < most_units) (key o : L
           let gone = sym e ∙ past-checked kind n s b (ltb-false n (256 ^ kind.number_bytes) q) (omega arith) key o in
           let z : ◌≡◌ {A = ℕ} 0 1 = cc in absurd (omega arith)
 
-  other_at : (n total : ℕ) (s : List ℕ) (rest : ℕ → CheckAnswer) (f : Frame) → Bytes s → n ≤ 256 ^ kind.number_bytes → checked_at kind key o n s ≡ f
+  other_at : (n total : ℕ) (s : List ℕ) (rest : ℕ → CheckAnswer) (f : FrameAnswer) → Bytes s → n ≤ 256 ^ kind.number_bytes → checked_at kind key o n s ≡ f
       → ((m : ℕ) → n < 256 ^ kind.number_bytes → (check_told (rest m)).number ≢ 13)
-      → (check_told (by_frame f rest (Accepted n (total + close_calls kind)))).number ≢ 13
-  other_at n total s rest (Unit m) b in-room e h = h m (unit-fits n m s b in-room e)
-  other_at n total s rest Close b in-room e h = λ q. omega arith
-  other_at n total s rest (FrameRefused why) b in-room e h = checked-other kind key o n s (omega arith) why e
+      → (check_told (by_frame f rest (accepted n (total + close_calls kind)))).number ≢ 13
+  other_at n total s rest (Ok (Unit m)) b in-room e h = h m (unit-fits n m s b in-room e)
+  other_at n total s rest (Ok Close) b in-room e h = λ q. omega arith
+  other_at n total s rest (Err why) b in-room e h = checked-other kind key o n s (omega arith) why e
 
   other_from : (left n total : ℕ) (s : List ℕ) → Bytes s → n ≤ 256 ^ kind.number_bytes → most_units < left + n
       → (check_told (check_from kind key o left n total s)).number ≢ 13
@@ -233,8 +231,8 @@ opening_other k s =
     (other_unless (listed (opening_suite s).cipher (opening_suite s).steps) SuiteNotListed _ (λ q. omega arith) other_done))
 
 other_answer : (a : Answer) (w : CheckAnswer) → Other a → (check_told w).number ≢ 13 → (check_told (after_tests a w)).number ≢ 13
-other_answer Done w o h = h
-other_answer (Refused why) w o h = o why refl
+other_answer (Ok tt) w o h = h
+other_answer (Err why) w o h = o why refl
 
 never_13 : (key s : List ℕ) → Bytes s → (check_told (check_answer_of kind10 key s)).number ≢ 13
 unfolding check_answer_of after_opening
@@ -259,7 +257,7 @@ module _ (kind : Kind) (wf : WellFormed kind) (key o : List ℕ) (held : o ≡ o
       (λ i. check_from kind key o (add-suc left (length us) i) n total (units_bytes kind suite key number n (u ∷ us) ++ rest))
       ∙ ap (check_from kind key o (suc (left + length us)) n total)
       (append_assoc (unit_bytes kind suite key number n u) (units_bytes kind suite key number (suc n) us) rest)
-      ∙ from_step kind key o (left + length us) n total (unit_bytes kind suite key number n u ++ more) (Unit m) w.0
+      ∙ from_step kind key o (left + length us) n total (unit_bytes kind suite key number n u ++ more) (Ok (Unit m)) w.0
       ∙ ap (check_from kind key o (left + length us) (suc n) (total + unit_calls kind m)) w.1
       ∙ comes-to left (suc n) (total + unit_calls kind m) us each (omega arith) (omega arith)
       (λ t. ap (λ (k : ℕ). check_from kind key o left k t rest) (omega arith) ∙ then t)
@@ -293,13 +291,13 @@ module _ (k : BookKind) (suite : Suite) (key : List ℕ) (number : ℕ) (rest : 
       (λ t. ap (λ (c : ℕ). check_from kind key f left c t rest) (omega arith) ∙ then t)
 
 -- behind the last unit that there may be
-full_checked : (s : List ℕ) → header_there kind14 s ≡ true → (key o : List ℕ) → checked_at kind14 key o most_units s ≡ FrameRefused TooManyUnits
+full_checked : (s : List ℕ) → header_there kind14 s ≡ true → (key o : List ℕ) → checked_at kind14 key o most_units s ≡ Err TooManyUnits
 unfolding checked_at frame_at unit_tests
 full_checked s there key o = rw (header_begins kind14 (formed Tag14) s there, there) refl
 
 -- one kind a book: neither a close nor a header
 neither_checked : (kind : Kind) (n : ℕ) (s : List ℕ) → begins_close kind s ≡ false → header_there kind s ≡ false → (key o : List ℕ)
-    → checked_at kind key o n s ≡ FrameRefused FieldMalformed
+    → checked_at kind key o n s ≡ Err FieldMalformed
 unfolding checked_at frame_at unit_tests
 neither_checked kind n s begins there key o = rw (begins, there) refl
 
@@ -309,12 +307,12 @@ one_kind_law =
       mixed = λ k suite key number us n many some few fits rest begins there.
           let o : List ℕ = opening_fields suite number in
           ap check_told
-          (answers k suite key number rest us n (suc (most_units - n)) many some (omega arith) (omega arith) fits (CheckRefused FieldMalformed)
+          (answers k suite key number rest us n (suc (most_units - n)) many some (omega arith) (omega arith) fits (Err FieldMalformed)
           (λ t. from_step (kind_of k) key o (most_units - n) n t rest _ (neither_checked (kind_of k) n rest begins there key o)));
     }
 
 old_refused : (v : Bool) (n t : ℕ) (rest : ℕ → CheckAnswer)
-    → check_told (by_frame (FrameRefused (cond v NumberOutOfOrder FieldMalformed)) rest (Accepted n t)) ≡ refuses (cond v 15 14)
+    → check_told (by_frame (Err (cond v NumberOutOfOrder FieldMalformed)) rest (accepted n t)) ≡ refuses (cond v 15 14)
 old_refused true n t rest = refl
 old_refused false n t rest = refl
 
@@ -328,12 +326,12 @@ limit_law =
           let o : List ℕ = opening_fields suite number in
           ap check_told
           (answers Tag10 suite key number rest us 65536 16711680 many (omega arith) (omega arith) (omega arith) (omega arith)
-          (CheckRefused (cond there NumberOutOfOrder FieldMalformed))
+          (Err (cond there NumberOutOfOrder FieldMalformed))
           (λ t. from_step kind10 key o 16711679 65536 t rest _ (past-checked kind10 65536 rest b (omega arith) (omega arith) key o)))
-          ∙ old_refused there 0 0 (λ (m : ℕ). Accepted 0 0);
+          ∙ old_refused there 0 0 (λ (m : ℕ). accepted 0 0);
       wide = λ suite key number us many rest there.
           let o : List ℕ = opening_fields suite number in
           ap check_told
-          (answers Tag14 suite key number rest us 16777215 1 many (omega arith) (omega arith) (omega arith) (omega arith) (CheckRefused TooManyUnits)
+          (answers Tag14 suite key number rest us 16777215 1 many (omega arith) (omega arith) (omega arith) (omega arith) (Err TooManyUnits)
           (λ t. from_step kind14 key o 0 16777215 t rest _ (full_checked rest there key o)));
     }

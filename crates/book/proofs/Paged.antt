@@ -1,4 +1,5 @@
 -- Of every string that check accepts the page has the rows of the units of each list of calls that leaves it.
+use Rattle.std.specs.Prelude.{Ok, Err}
 use mathlib.Core.Path.{◌≡◌, refl, sym, ap, ◌∙◌}
 use mathlib.Core.List.{List, ◌++◌}
 use Prim.Native.Nat.{ℕ, ◌*◌}
@@ -9,9 +10,7 @@ use Rattle.kinds.specs.declared.Kind.{Kind as BookKind}
 use Rattle.kinds.specs.Kind.{kind_of, book_kind}
 use Rattle.kinds.proofs.Formed.{formed}
 use Rattle.opening_fields.specs.Opening.{opening_bytes, after_opening}
-use Rattle.checker.specs.declared.check.CheckAnswer.{CheckAnswer}
-use Rattle.checker.specs.declared.check.CheckAnswer.TheVariants.{Accepted, Refused}
-use Rattle.checker.specs.Check.{check_answer, check_told}
+use Rattle.checker.specs.Check.{check_answer, check_told, CheckAnswer, accepted}
 use Rattle.checker.proofs.Told.{told_accepted}
 use Rattle.page.specs.Page.{rows, sources_from, page_told, page_answer, page_buffer}
 use Rattle.page.proofs.Pages.{page_refused, page_short, page_written, accepted_long}
@@ -22,7 +21,7 @@ use Rattle.book.proofs.Demand3.{left_bookable, left_book, left_counted}
 use Rattle.book.proofs.Fetched.{counted}
 
 module _ (q : BookKind) (h : History (kind_of q)) {key x : List ℕ} (l : LeavesBook h key x) (n t : ℕ) (count : (after h).writer.count ≡ n)
-    (e : check_answer key x ≡ Accepted n t) (typed : List ℕ) where
+    (e : check_answer key x ≡ accepted n t) (typed : List ℕ) where
   all : length (units_added h) ≡ n
   all = left_counted (kind_of q) (formed q) h l ∙ count
 
@@ -48,9 +47,9 @@ module _ (q : BookKind) (h : History (kind_of q)) {key x : List ℕ} (l : Leaves
 
 refused_as : (a : CheckAnswer) (why : ℕ) → check_told a ≡ refuses why → (key x : List ℕ) → check_answer key x ≡ a → (typed page : List ℕ)
     → (page_told (page_answer key x typed page) ≡ refuses why) × (page_buffer key x typed page ≡ page)
-refused_as (Accepted n t) why e key x is typed page =
+refused_as (Ok totals) why e key x is typed page =
     let two : ◌≡◌ {A = ℕ} 2 0 = ap (λ (r : Told). length r.values) e in absurd (omega arith)
-refused_as (Refused w) why e key x is typed page =
+refused_as (Err w) why e key x is typed page =
     let both = page_refused key x typed page w is in
     (ap page_told (sym both.0) ∙ e, sym both.1)
 

@@ -1,4 +1,6 @@
 -- The law on rules: check over a rule of books that a writer leaves, and the earlier rule.
+use Rattle.parser.specs.declared.frame.Frame.TheVariants.{Close, Unit}
+use Rattle.std.specs.Prelude.{Ok, Err}
 use mathlib.Core.Path.{◌≡◌, refl, sym, ap, subst, ◌∙◌}
 use mathlib.Core.Bool.{Bool, true, false, true≢false, not, ◌&&◌, cond, and-eq-true_iff, and-false}
 use mathlib.Core.List.{List, [], ◌∷◌, ◌++◌}
@@ -21,14 +23,11 @@ use Rattle.kinds.specs.Lengths.{unit_calls}
 use Rattle.kinds.proofs.Formed.{formed}
 use Rattle.format.specs.Layout.{unit_bytes, book_bytes, Bookable}
 use Rattle.format.specs.Sealings.{opening_fields}
-use Rattle.parser.specs.declared.frame.Frame.TheVariants.{Unit, Close, Refused as FrameRefused}
 use Rattle.parser.specs.Frame.{most_units, after_unit, Readable}
 use Rattle.parser.proofs.Frames.{readable}
 use Rattle.opening_fields.specs.Opening.{opening_number, opening_suite, opening_bytes, after_opening, check_tests}
 use Rattle.opening_fields.proofs.Openings.{front_says}
-use Rattle.checker.specs.Check.{check_told, checked_at, after_tests, check_answer}
-use Rattle.checker.specs.declared.check.CheckAnswer.{CheckAnswer}
-use Rattle.checker.specs.declared.check.CheckAnswer.TheVariants.{Refused as CheckRefused}
+use Rattle.checker.specs.Check.{check_told, checked_at, after_tests, check_answer, CheckAnswer}
 use Rattle.checker.proofs.BookKinds.{own_kind}
 use Rattle.checker.proofs.Closes.{close_written}
 use Rattle.checker.proofs.Exact.{opens, book_is}
@@ -41,7 +40,7 @@ use Rattle.book.proofs.TwoRules.{now_checked, now_check, or_languages, checked_u
 
 -- units that are written, then the close
 abbrev or_refused : Bool → CheckAnswer → CheckAnswer
-or_refused ok answer = cond ok answer (CheckRefused LanguagesNotAllowed)
+or_refused ok answer = cond ok answer (Err LanguagesNotAllowed)
 
 module _ (rule : Rule) (kind : Kind) (wf : WellFormed kind) (key o : List ℕ) (held : o ≡ opening_fields (opening_suite o) (opening_number o))
     (long : length key ≡ 16) (key_bytes : Bytes key) where
@@ -55,12 +54,12 @@ module _ (rule : Rule) (kind : Kind) (wf : WellFormed kind) (key o : List ℕ) (
   unfolding all_under
   units_under zero n total us each less few fits = absurd (omega arith)
   units_under (suc left) n total [] none_from less few fits =
-      let there : checked_under pair_allowed kind key o n (frames_of n []) ≡ Close =
+      let there : checked_under pair_allowed kind key o n (frames_of n []) ≡ (Ok Close) =
       now_checked kind key o n (frames_of n [])
       ∙ ap (checked_at kind key o n) (bytes_none kind (opening_suite o) key (opening_number o) n)
       ∙ close_written kind key o held long key_bytes n wf (omega arith) in
-      step_under rule kind key o left n total (frames_of n []) Close (checked_close pair_allowed rule kind n (frames_of n []) key o there)
-      ∙ sym (step_under pair_allowed kind key o left n total (frames_of n []) Close there)
+      step_under rule kind key o left n total (frames_of n []) (Ok Close) (checked_close pair_allowed rule kind n (frames_of n []) key o there)
+      ∙ sym (step_under pair_allowed kind key o left n total (frames_of n []) (Ok Close) there)
   units_under (suc left) n total (u ∷ us) (more_from a each) less few fits =
       let m : ℕ = length (unit_text u.source u.target) in
       let suite = opening_suite o in
@@ -69,7 +68,7 @@ module _ (rule : Rule) (kind : Kind) (wf : WellFormed kind) (key o : List ℕ) (
       let s : List ℕ = unit_bytes kind suite key number n u ++ rest in
       let w = unit_written kind key o held long key_bytes n wf (omega arith) (omega arith) u a rest in
       let codes = unit_codes kind key o held long key_bytes n wf (omega arith) (omega arith) u a rest in
-      let there : checked_under pair_allowed kind key o n s ≡ Unit m = now_checked kind key o n s ∙ w.0 in
+      let there : checked_under pair_allowed kind key o n s ≡ Ok (Unit m) = now_checked kind key o n s ∙ w.0 in
       let under : checked_under rule kind key o n s ≡ or_languages (rule u.from u.to) m =
       checked_unit pair_allowed rule kind n s key o m there ∙ (λ i. or_languages (rule (codes.0 i) (codes.1 i)) m) in
       let more = units_under left (suc n) (total + unit_calls kind m) us each (omega arith) (omega arith) (omega arith) in
@@ -79,20 +78,20 @@ module _ (rule : Rule) (kind : Kind) (wf : WellFormed kind) (key o : List ℕ) (
       (sym (bytes_more kind suite key number n u us))
       (by (rule u.from u.to) m rest s w.1 there under more)
     where
-      by : (ok : Bool) (m : ℕ) (rest s : List ℕ) → after_unit kind m s ≡ rest → checked_under pair_allowed kind key o n s ≡ Unit m
+      by : (ok : Bool) (m : ℕ) (rest s : List ℕ) → after_unit kind m s ≡ rest → checked_under pair_allowed kind key o n s ≡ Ok (Unit m)
           → checked_under rule kind key o n s ≡ or_languages ok m
           → check_from_under rule kind key o left (suc n) (total + unit_calls kind m) rest
           ≡ or_refused (all_under rule us) (check_from_under pair_allowed kind key o left (suc n) (total + unit_calls kind m) rest)
           → check_from_under rule kind key o (suc left) n total s
           ≡ or_refused (ok && all_under rule us) (check_from_under pair_allowed kind key o (suc left) n total s)
       by true m rest s then there under more =
-          step_under rule kind key o left n total s (Unit m) under
+          step_under rule kind key o left n total s (Ok (Unit m)) under
           ∙ ap (check_from_under rule kind key o left (suc n) (total + unit_calls kind m)) then
           ∙ more
           ∙ ap (or_refused (all_under rule us))
           (ap (check_from_under pair_allowed kind key o left (suc n) (total + unit_calls kind m)) (sym then)
-          ∙ sym (step_under pair_allowed kind key o left n total s (Unit m) there))
-      by false m rest s then there under more = step_under rule kind key o left n total s (FrameRefused LanguagesNotAllowed) under
+          ∙ sym (step_under pair_allowed kind key o left n total s (Ok (Unit m)) there))
+      by false m rest s then there under more = step_under rule kind key o left n total s (Err LanguagesNotAllowed) under
 
 -- a book
 module _ (kind : Kind) (suite : Suite) (key : List ℕ) (number : ℕ) (us : List BookUnit) (book : Bookable kind suite key number us) where

@@ -1,9 +1,10 @@
 -- Rules for a unit's languages, compared: "Every book accepted before is accepted still." Check over a rule is the definition of check with a
 -- rule where `unit_tests` has `pair_allowed`; over `pair_allowed` it is `check_answer` (clause `now`). proofs/Rules proves all clauses.
-use Rattle.std.specs.Prelude.{◌≡◌, Bool, true, not, ◌&&◌, cond, ◌↔◌, ◌⊎◌, ◌≢◌, List, [], ◌∷◌, ◌++◌, ℕ, zero, suc, ◌+◌, eqb, ltb, length}
+use Rattle.suites.specs.Answer.{Answer}
+use Rattle.parser.specs.FrameAnswer.{FrameAnswer}
+use Rattle.parser.specs.declared.frame.Frame.TheVariants.{Close, Unit}
+use Rattle.std.specs.Prelude.{◌≡◌, Bool, true, not, ◌&&◌, cond, ◌↔◌, ◌⊎◌, ◌≢◌, List, [], ◌∷◌, ◌++◌, ℕ, zero, suc, ◌+◌, eqb, ltb, length, Ok, Err}
 use Rattle.bits.specs.Bytes.{same_bytes}
-use Rattle.suites.specs.declared.refusal.Answer.{Answer}
-use Rattle.suites.specs.declared.refusal.Answer.TheVariants.{Done}
 use Rattle.suites.specs.declared.refusal.Refusal.TheVariants.{LanguagesNotAllowed, TooManyUnits, FieldMalformed, NumberOutOfOrder}
 use Rattle.suites.specs.Told.{gives, refuses}
 use Rattle.limits.specs.Tests.{unless}
@@ -14,8 +15,6 @@ use Rattle.fields.specs.Unit.{BookUnit, Given, Allowed, in_range}
 use Rattle.kinds.specs.declared.Kind.{Kind as BookKind}
 use Rattle.kinds.specs.Kind.{kind_of, book_kind}
 use Rattle.kinds.specs.Lengths.{header_bytes, unit_calls, close_calls}
-use Rattle.parser.specs.declared.frame.Frame.{Frame}
-use Rattle.parser.specs.declared.frame.Frame.TheVariants.{Unit, Close}
 use Rattle.parser.specs.Frame.{
   most_units,
   frame_number,
@@ -30,9 +29,7 @@ use Rattle.parser.specs.Frame.{
 }
 use Rattle.opening_fields.specs.Opening.{opening_bytes, after_opening, check_tests}
 use Rattle.seals.specs.Seal.{unit_seal_tests, close_seal_tests}
-use Rattle.checker.specs.Check.{check_told, with_seal, by_frame, after_tests, check_answer}
-use Rattle.checker.specs.declared.check.CheckAnswer.{CheckAnswer}
-use Rattle.checker.specs.declared.check.CheckAnswer.TheVariants.{Accepted, Refused as CheckRefused}
+use Rattle.checker.specs.Check.{check_told, with_seal, by_frame, after_tests, check_answer, CheckAnswer, accepted}
 use Rattle.book.specs.Demand3.{History, after, units_added, LeavesBook}
 
 -- a rule: whether a unit may have these codes of source and target language
@@ -53,27 +50,27 @@ unit_tests_under rule kind n s =
     (unless (eqb (frame_number kind s) n) NumberOutOfOrder
     (unless (rule (frame_from kind s) (frame_to kind s)) LanguagesNotAllowed
     (unless (has_sealed (after_header kind s)) FieldMalformed
-    Done))))
+    (Ok tt)))))
 
 -- `frame_at`
-unfoldable pub frame_under : Rule → Kind → ℕ → List ℕ → Frame
+unfoldable pub frame_under : Rule → Kind → ℕ → List ℕ → FrameAnswer
 frame_under rule kind n s =
     cond (begins_close kind s)
-    (frame_of (close_tests kind n s) Close)
-    (frame_of (unit_tests_under rule kind n s) (Unit (field_length (after_header kind s))))
+    (frame_of (close_tests kind n s) (Ok Close))
+    (frame_of (unit_tests_under rule kind n s) (Ok (Unit (field_length (after_header kind s)))))
 
 -- `checked_at`
-unfoldable pub checked_under : Rule → Kind → List ℕ → List ℕ → ℕ → List ℕ → Frame
+unfoldable pub checked_under : Rule → Kind → List ℕ → List ℕ → ℕ → List ℕ → FrameAnswer
 checked_under rule kind key o n s =
     with_seal (frame_under rule kind n s) (λ (m : ℕ). unit_seal_tests kind key o n m s) (close_seal_tests kind key o n s)
 
 -- `check_from`
 unfoldable pub check_from_under : Rule → Kind → List ℕ → List ℕ → ℕ → ℕ → ℕ → List ℕ → CheckAnswer
-check_from_under rule kind key o zero n total s = CheckRefused TooManyUnits
+check_from_under rule kind key o zero n total s = Err TooManyUnits
 check_from_under rule kind key o (suc left) n total s =
     by_frame (checked_under rule kind key o n s)
     (λ (m : ℕ). check_from_under rule kind key o left (suc n) (total + unit_calls kind m) (after_unit kind m s))
-    (Accepted n (total + close_calls kind))
+    (accepted n (total + close_calls kind))
 
 -- `check_answer`
 unfoldable pub check_under : Rule → List ℕ → List ℕ → CheckAnswer

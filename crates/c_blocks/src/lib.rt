@@ -1,4 +1,5 @@
-// The functions for C on blocks, as include/sealed_book.h declares them.
+// The functions for C on blocks, as include/sealed_book.h declares them: one for each way, since C has a name for each, and each with C's
+// parameters, so that cipher, steps and key stand in all four.
 #![tactic(auto)]
 
 ghost use Rattle.std.specs.Prelude.{◌≡◌};
@@ -7,7 +8,6 @@ ghost use Rattle.suites.specs.Suite.{suite_answer};
 ghost use Rattle.returned.specs.Returned.{returned};
 
 use returned::code;
-use suites::refusal::Answer;
 use suites::suite::Suite;
 
 #[unsafe(no_mangle)]
@@ -21,16 +21,7 @@ pub extern "C" fn sb_encipher(
     ensures { (result ≡ returned (suite_answer cipher steps))
         × (block.new ≡ enciphered cipher steps key.now tweak.now block.old) }
 {
-    let done = cipher::block::encipher(Suite { cipher, steps }, *key, *tweak, *block);
-    let answer = done.answer;
-    match answer {
-        Answer::Refused(why) => why.number(),
-        Answer::Done => {
-            let b = done.block;
-            *block = b;
-            0
-        }
-    }
+    code(cipher::block::encipher(Suite { cipher, steps }, *key, *tweak, block))
 }
 
 #[unsafe(no_mangle)]
@@ -44,16 +35,7 @@ pub extern "C" fn sb_decipher(
     ensures { (result ≡ returned (suite_answer cipher steps))
         × (block.new ≡ deciphered cipher steps key.now tweak.now block.old) }
 {
-    let done = cipher::block::decipher(Suite { cipher, steps }, *key, *tweak, *block);
-    let answer = done.answer;
-    match answer {
-        Answer::Refused(why) => why.number(),
-        Answer::Done => {
-            let b = done.block;
-            *block = b;
-            0
-        }
-    }
+    code(cipher::block::decipher(Suite { cipher, steps }, *key, *tweak, block))
 }
 
 #[unsafe(no_mangle)]
@@ -67,8 +49,7 @@ pub extern "C" fn sb_encipher_blocks(
     ensures { (result ≡ returned (suite_answer cipher steps))
         × (blocks.new ≡ enciphered_blocks cipher steps key.now tweaks.now blocks.old) }
 {
-    let answer = cipher::blocks::encipher_blocks(Suite { cipher, steps }, *key, tweaks, blocks);
-    code(answer)
+    code(cipher::blocks::encipher_blocks(Suite { cipher, steps }, *key, tweaks, blocks))
 }
 
 #[unsafe(no_mangle)]
@@ -82,6 +63,5 @@ pub extern "C" fn sb_decipher_blocks(
     ensures { (result ≡ returned (suite_answer cipher steps))
         × (blocks.new ≡ deciphered_blocks cipher steps key.now tweaks.now blocks.old) }
 {
-    let answer = cipher::blocks::decipher_blocks(Suite { cipher, steps }, *key, tweaks, blocks);
-    code(answer)
+    code(cipher::blocks::decipher_blocks(Suite { cipher, steps }, *key, tweaks, blocks))
 }

@@ -1,11 +1,11 @@
 -- Demand 3 holds of what C keeps: along a list of calls the 64 bytes hold that list's writer.
+use Rattle.suites.specs.Answer.{Answer}
+use Rattle.std.specs.Prelude.{Ok, Err}
 use mathlib.Core.Path.{◌≡◌, refl, sym, ap, subst, ◌∙◌}
 use mathlib.Core.List.{List, [], ◌∷◌, ◌++◌, append_assoc, append-nil}
 use Prim.Native.Nat.{ℕ, ◌^◌, ◌<◌}
 use native.Mathlib.Omega.{arith}
 use lib.ListN.{length, take}
-use Rattle.suites.specs.declared.refusal.Answer.{Answer}
-use Rattle.suites.specs.declared.refusal.Answer.TheVariants.{Done, Refused}
 use Rattle.suites.specs.Told.{Told, gives, by_answer}
 use Rattle.fields.specs.Each.{Each, none, more}
 use Rattle.fields.specs.Kind.{Kind, writer_kind}
@@ -61,13 +61,13 @@ module _ (s : Start) (fits : length s.buffer < 2 ^ 64) where
     there = ap (after_call writer_kind c) here ∙ sym (calls_snoc cs c (started s))
 
     call_same : (a : Answer) → outcome writer_kind c (state_of k) ≡ a → state_of l ≡ after_call writer_kind c (state_of k)
-    call_same Done q =
+    call_same (Ok tt) q =
         let e = after_call writer_kind c (state_of k) in
         let bytes : l.writer ≡ writer_bytes e.writer = h.writer ∙ ap (λ (x : Answer). by_answer x (writer_bytes e.writer) k.writer) q in
         let back : writer_of (writer_bytes e.writer) ≡ e.writer =
         subst (λ (x : State). writer_of (writer_bytes x.writer) ≡ x.writer) (sym there) (held (cs ++ c ∷ []) each) in
         λ i. record { writer = (ap writer_of bytes ∙ back) i; buffer = h.buffer i }
-    call_same (Refused why) q =
+    call_same (Err why) q =
         let e = after_call writer_kind c (state_of k) in
         let bytes : l.writer ≡ k.writer = h.writer ∙ ap (λ (x : Answer). by_answer x (writer_bytes e.writer) k.writer) q in
         let stays : e ≡ state_of k = refused writer_kind (state_of k) c q in

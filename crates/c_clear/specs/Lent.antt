@@ -1,6 +1,7 @@
 -- What the calls without a key leave in what C lends them.
-use Rattle.std.specs.Prelude.{List, ℕ}
-use Rattle.suites.specs.Told.{by_answer}
+use Rattle.std.specs.Prelude.{List, ℕ, Ok, Err}
+use Rattle.suites.specs.Answer.{Answer}
+use Rattle.walk.specs.Clear.{ClearAnswer}
 use Rattle.walk.specs.declared.clear.Clear.{Clear}
 
 -- what is lent for a unit: the codes with their lengths, the ciphertext's place and length, and the place of the next unit
@@ -30,6 +31,17 @@ abbrev pub said_of : Clear → Lent
 said_of c =
     lent c.from.bytes c.from.len c.to.bytes c.to.len c.ciphertext.at c.ciphertext.len c.next
 
--- what is there after the call: that, or with a refusal what was there
-unfoldable pub lent_after : Clear → Lent → Lent
-lent_after c old = by_answer c.answer (said_of c) old
+-- the answer of the call: that the fields say something, or the refusal
+abbrev pub clear_answer : ClearAnswer → Answer
+clear_answer (Ok c) = Ok tt
+clear_answer (Err why) = Err why
+
+-- where the unit begins, after the call; with a refusal what was there
+abbrev pub at_after : ClearAnswer → ℕ → ℕ
+at_after (Ok c) old = c.at
+at_after (Err why) old = old
+
+-- what else is there after the call, likewise
+abbrev pub lent_after : ClearAnswer → Lent → Lent
+lent_after (Ok c) old = said_of c
+lent_after (Err why) old = old

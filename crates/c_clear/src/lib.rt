@@ -1,4 +1,5 @@
-// The functions for C that need no key, as include/sealed_book.h declares them. None tests a seal.
+// The functions for C that need no key, as include/sealed_book.h declares them. None tests a seal. What C lends stands in their parameters, one
+// by one as C declares them, and so in those of `put`.
 #![tactic(auto)]
 
 ghost use Rattle.std.specs.Prelude.{◌≡◌};
@@ -6,9 +7,9 @@ ghost use Rattle.returned.specs.Returned.{returned};
 ghost use Rattle.opening_fields.specs.Opening.{opening_number, opening_suite, opening_tests};
 ghost use Rattle.walk.specs.Clear.{placed_clear, unit_clear};
 ghost use Rattle.suites.specs.Told.{by_answer};
-ghost use Rattle.c_clear.specs.Lent.{lent, lent_after};
+ghost use Rattle.c_clear.specs.Lent.{lent, clear_answer, at_after, lent_after};
 
-use suites::refusal::Answer;
+use suites::refusal::Refusal;
 use walk::clear::Clear;
 
 #[unsafe(no_mangle)]
@@ -18,10 +19,9 @@ pub extern "C" fn sb_info(book: &[u8], cipher: &mut u8, steps: &mut u8, number: 
         × (steps.new ≡ by_answer (opening_tests book.now) (opening_suite book.now).steps steps.old)
         × (number.new ≡ by_answer (opening_tests book.now) (opening_number book.now) number.old) }
 {
-    let tested = opening_fields::tests(book);
-    match tested {
-        Answer::Refused(why) => why.number(),
-        Answer::Done => {
+    match opening_fields::tests(book) {
+        Err(why) => why.number(),
+        Ok(()) => {
             let suite = opening_fields::suite(book);
             *cipher = suite.cipher;
             *steps = suite.steps;
@@ -32,21 +32,17 @@ pub extern "C" fn sb_info(book: &[u8], cipher: &mut u8, steps: &mut u8, number: 
 }
 
 // Where the unit begins, put where C lent it.
-fn place(c: Clear, at: &mut u64)
-    ensures { at.new ≡ by_answer c.answer c.at at.old }
+fn place(said: Result<Clear, Refusal>, at: &mut u64)
+    ensures { at.new ≡ at_after said at.old }
 {
-    let answer = c.answer;
-    match answer {
-        Answer::Refused(why) => {}
-        Answer::Done => {
-            *at = c.at as u64;
-        }
+    if let Ok(c) = said {
+        *at = c.at as u64;
     }
 }
 
 // What else was said in the clear, put likewise.
 fn put(
-    c: Clear,
+    said: Result<Clear, Refusal>,
     from: &mut [u8; 4],
     fromlen: &mut u64,
     to: &mut [u8; 4],
@@ -55,28 +51,24 @@ fn put(
     len: &mut u64,
     next: &mut u64,
 ) -> u32
-    ensures { (result ≡ returned c.answer)
+    ensures { (result ≡ returned (clear_answer said))
         × (lent from.new fromlen.new to.new tolen.new
         start.new len.new next.new
-        ≡ lent_after c
+        ≡ lent_after said
         (lent from.old fromlen.old to.old tolen.old
         start.old len.old next.old)) }
 {
-    let answer = c.answer;
-    match answer {
-        Answer::Refused(why) => why.number(),
-        Answer::Done => {
-            let one = c.from;
-            let two = c.to;
-            let part = c.ciphertext;
-            let a = one.bytes;
-            let b = two.bytes;
-            *from = a;
-            *fromlen = one.len as u64;
-            *to = b;
-            *tolen = two.len as u64;
-            *start = part.at as u64;
-            *len = part.len as u64;
+    match said {
+        Err(why) => why.number(),
+        Ok(c) => {
+            let one = c.from.bytes;
+            let two = c.to.bytes;
+            *from = one;
+            *fromlen = c.from.len as u64;
+            *to = two;
+            *tolen = c.to.len as u64;
+            *start = c.ciphertext.at as u64;
+            *len = c.ciphertext.len as u64;
             *next = c.next as u64;
             0
         }
@@ -96,15 +88,15 @@ pub extern "C" fn sb_unit_at(
     len: &mut u64,
     next: &mut u64,
 ) -> u32
-    ensures { (result ≡ returned (placed_clear number at book.now).answer)
+    ensures { (result ≡ returned (clear_answer (placed_clear number at book.now)))
         × (lent from.new fromlen.new to.new tolen.new
         start.new len.new next.new
         ≡ lent_after (placed_clear number at book.now)
         (lent from.old fromlen.old to.old tolen.old
         start.old len.old next.old)) }
 {
-    let c = walk::clear::placed(book, number, at);
-    put(c, from, fromlen, to, tolen, start, len, next)
+    let said = walk::clear::placed(book, number, at);
+    put(said, from, fromlen, to, tolen, start, len, next)
 }
 
 #[unsafe(no_mangle)]
@@ -120,15 +112,15 @@ pub extern "C" fn sb_unit(
     len: &mut u64,
     next: &mut u64,
 ) -> u32
-    ensures { (result ≡ returned (unit_clear k book.now).answer)
-        × (at.new ≡ by_answer (unit_clear k book.now).answer (unit_clear k book.now).at at.old)
+    ensures { (result ≡ returned (clear_answer (unit_clear k book.now)))
+        × (at.new ≡ at_after (unit_clear k book.now) at.old)
         × (lent from.new fromlen.new to.new tolen.new
         start.new len.new next.new
         ≡ lent_after (unit_clear k book.now)
         (lent from.old fromlen.old to.old tolen.old
         start.old len.old next.old)) }
 {
-    let c = walk::clear::unit(book, k);
-    place(c, at);
-    put(c, from, fromlen, to, tolen, start, len, next)
+    let said = walk::clear::unit(book, k);
+    place(said, at);
+    put(said, from, fromlen, to, tolen, start, len, next)
 }

@@ -1,12 +1,10 @@
-// The functions for C that compare a typed sentence with segments, as include/sealed_book.h declares them.
+// The functions for C that compare a typed sentence with segments, as include/sealed_book.h declares them: hence numbers for refusals.
 #![tactic(auto)]
 
 ghost use Rattle.std.specs.Prelude.{[], ◌∷◌, ◌≡◌};
 ghost use Rattle.score.specs.Score.{score};
 ghost use Rattle.page.specs.Page.{page_answer, page_told, page_buffer};
 ghost use Rattle.returned.specs.Returned.{Returns};
-
-use page::PageAnswer;
 
 #[unsafe(no_mangle)]
 pub extern "C" fn sb_score(source: &[u8], typed: &[u8]) -> u32
@@ -30,10 +28,9 @@ pub extern "C" fn sb_page(
         (len.new ∷ [])
         × (page.new ≡ page_buffer key.now book.now typed.now page.old) }
 {
-    let answer = page::page(key, book, typed, page);
-    match answer {
-        PageAnswer::Refused(why) => why.number(),
-        PageAnswer::Written(n) => {
+    match page::page(key, book, typed, page) {
+        Err(why) => why.number(),
+        Ok(n) => {
             *len = n as u64;
             0
         }

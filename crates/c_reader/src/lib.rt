@@ -1,4 +1,5 @@
-// The functions for C that read a book, as include/sealed_book.h declares them.
+// The functions for C that read a book, as include/sealed_book.h declares them: hence numbers for refusals, and a match each, since what is lent
+// to be written differs.
 #![tactic(auto)]
 
 ghost use Rattle.std.specs.Prelude.{[], ◌∷◌, ◌≡◌};
@@ -6,9 +7,6 @@ ghost use Rattle.checker.specs.Check.{check_answer, check_told};
 ghost use Rattle.walk.specs.Ciphertext.{ciphertext_place};
 ghost use Rattle.fetch.specs.Fetch.{fetch_answer, fetch_told, fetch_buffer, placed_answer, placed_told, placed_buffer};
 ghost use Rattle.returned.specs.Returned.{Returns};
-
-use checker::check::CheckAnswer;
-use fetch::unit::{FetchAnswer, PlacedAnswer};
 
 #[unsafe(no_mangle)]
 pub extern "C" fn sb_check(key: &[u8], book: &[u8], units: &mut u64, calls: &mut u64) -> u32
@@ -18,12 +16,11 @@ pub extern "C" fn sb_check(key: &[u8], book: &[u8], units: &mut u64, calls: &mut
         result
         (units.new ∷ calls.new ∷ []) }
 {
-    let answer = checker::check::check(key, book);
-    match answer {
-        CheckAnswer::Refused(why) => why.number(),
-        CheckAnswer::Accepted(count, total) => {
-            *units = count;
-            *calls = total;
+    match checker::check::check(key, book) {
+        Err(why) => why.number(),
+        Ok(totals) => {
+            *units = totals.units;
+            *calls = totals.calls;
             0
         }
     }
@@ -45,12 +42,11 @@ pub extern "C" fn sb_fetch(
         (source.new ∷ target.new ∷ [])
         × (out.new ≡ fetch_buffer key.now book.now k out.old) }
 {
-    let answer = fetch::unit::fetch(key, book, k, out);
-    match answer {
-        FetchAnswer::Refused(why) => why.number(),
-        FetchAnswer::Fetched(s, t) => {
-            *source = s as u64;
-            *target = t as u64;
+    match fetch::unit::fetch(key, book, k, out) {
+        Err(why) => why.number(),
+        Ok(lengths) => {
+            *source = lengths.source as u64;
+            *target = lengths.target as u64;
             0
         }
     }
@@ -74,13 +70,12 @@ pub extern "C" fn sb_fetch_at(
         (source.new ∷ target.new ∷ next.new ∷ [])
         × (out.new ≡ placed_buffer key.now book.now number at out.old) }
 {
-    let answer = fetch::unit::fetch_placed(key, book, number, at, out);
-    match answer {
-        PlacedAnswer::Refused(why) => why.number(),
-        PlacedAnswer::Fetched(s, t, place) => {
-            *source = s as u64;
-            *target = t as u64;
-            *next = place as u64;
+    match fetch::unit::fetch_placed(key, book, number, at, out) {
+        Err(why) => why.number(),
+        Ok(fetched) => {
+            *source = fetched.lengths.source as u64;
+            *target = fetched.lengths.target as u64;
+            *next = fetched.next as u64;
             0
         }
     }

@@ -1,4 +1,5 @@
-// The functions for C that seal and open, as include/sealed_book.h declares them.
+// The functions for C that seal and open, as include/sealed_book.h declares them: hence numbers for refusals, and a match each, since what is lent
+// to be written differs.
 #![tactic(auto)]
 
 ghost use Rattle.std.specs.Prelude.{◌≡◌, [], ◌∷◌};
@@ -6,8 +7,6 @@ ghost use Rattle.sealing.specs.Seal.{seal_answer, seal_buffer, seal_told};
 ghost use Rattle.opening.specs.Open.{open_answer, open_buffer, open_told};
 ghost use Rattle.returned.specs.Returned.{Returns};
 
-use opening::open::OpenAnswer;
-use sealing::seal::SealAnswer;
 use suites::suite::Suite;
 
 #[unsafe(no_mangle)]
@@ -30,12 +29,11 @@ pub extern "C" fn sb_seal(
         × (out.new
         ≡ seal_buffer cipher steps key.now nonce.now header.now text.now out.old) }
 {
-    let answer = sealing::seal::seal(Suite { cipher, steps }, key, nonce, header, text, out);
-    match answer {
-        SealAnswer::Refused(why) => why.number(),
-        SealAnswer::Sealed(n, count) => {
-            *len = n as u64;
-            *calls = count as u64;
+    match sealing::seal::seal(Suite { cipher, steps }, key, nonce, header, text, out) {
+        Err(why) => why.number(),
+        Ok(sealed) => {
+            *len = sealed.len as u64;
+            *calls = sealed.calls as u64;
             0
         }
     }
@@ -60,10 +58,9 @@ pub extern "C" fn sb_open(
         × (out.new
         ≡ open_buffer cipher steps key.now nonce.now header.now sealed.now out.old) }
 {
-    let answer = opening::open::open(Suite { cipher, steps }, key, nonce, header, sealed, out);
-    match answer {
-        OpenAnswer::Refused(why) => why.number(),
-        OpenAnswer::Opened(m) => {
+    match opening::open::open(Suite { cipher, steps }, key, nonce, header, sealed, out) {
+        Err(why) => why.number(),
+        Ok(m) => {
             *len = m as u64;
             0
         }

@@ -1,17 +1,42 @@
-// The functions for C that write a book, as include/sealed_book.h declares them.
+// The functions for C that write a book, as include/sealed_book.h declares them. `sb_place`, `sb_units` and `sb_calls` differ in the number that
+// they say: C has a name for each.
 #![tactic(auto)]
 
 ghost use Rattle.std.specs.Prelude.{◌≡◌};
 ghost use Rattle.fields.specs.Unit.{unit_of};
 ghost use Rattle.writer_calls.specs.History.{add, close};
-ghost use Rattle.writer_bytes.specs.WriterBytes.{writer_of};
-ghost use Rattle.returned.specs.Returned.{suite_of};
+ghost use Rattle.suites.specs.Told.{by_answer};
+ghost use Rattle.writer_bytes.specs.WriterBytes.{writer_of, writer_bytes};
+ghost use Rattle.returned.specs.Returned.{returned, suite_of};
 ghost use Rattle.c_writer.specs.Written.{kept, CallsForC, StartsForC};
 
 use returned::code;
-use suites::refusal::Answer;
 use suites::suite::Suite;
 use writer::Written;
+
+// The writer that C keeps, to go on with.
+fn held(writer: &[u8; 64]) -> Written
+    ensures { result.writer ≡ writer_of writer.now }
+{
+    Written {
+        answer: Ok(()),
+        writer: writer_bytes::from_bytes(*writer),
+    }
+}
+
+// The number of an answer, and the writer kept; with a refusal the bytes stay as they are.
+fn keep(next: Written, writer: &mut [u8; 64]) -> u32
+    ensures number { result ≡ returned next.answer }
+    ensures bytes { writer.new ≡ by_answer next.answer (writer_bytes next.writer) writer.old }
+{
+    match next.answer {
+        Err(why) => why.number(),
+        Ok(()) => {
+            *writer = writer_bytes::to_bytes(next.writer);
+            0
+        }
+    }
+}
 
 #[unsafe(no_mangle)]
 pub extern "C" fn sb_start(
@@ -25,12 +50,9 @@ pub extern "C" fn sb_start(
     ensures { StartsForC (suite_of cipher steps) key.now number buf.old
         result (kept writer.new buf.new) }
 {
-    let done = Written::start(Suite { cipher, steps }, key, number, buf);
-    let w = done.writer;
-    let b = writer_bytes::to_bytes(w);
-    *writer = b;
-    let answer = done.answer;
-    code(answer)
+    let started = Written::start(Suite { cipher, steps }, key, number, buf);
+    *writer = writer_bytes::to_bytes(started.writer);
+    code(started.answer)
 }
 
 #[unsafe(no_mangle)]
@@ -45,22 +67,7 @@ pub extern "C" fn sb_add(
     ensures { CallsForC (add (unit_of from.now to.now source.now target.now))
         (kept writer.old buf.old) result (kept writer.new buf.new) }
 {
-    let w = writer_bytes::from_bytes(*writer);
-    let held = Written {
-        answer: Answer::Done,
-        writer: w,
-    };
-    let done = held.add(*from, *to, source, target, buf);
-    let answer = done.answer;
-    let next = done.writer;
-    match answer {
-        Answer::Refused(cause) => cause.number(),
-        Answer::Done => {
-            let b = writer_bytes::to_bytes(next);
-            *writer = b;
-            0
-        }
-    }
+    keep(held(writer).add(*from, *to, source, target, buf), writer)
 }
 
 #[unsafe(no_mangle)]
@@ -68,44 +75,26 @@ pub extern "C" fn sb_close(writer: &mut [u8; 64], buf: &mut [u8]) -> u32
     ensures { CallsForC close
         (kept writer.old buf.old) result (kept writer.new buf.new) }
 {
-    let w = writer_bytes::from_bytes(*writer);
-    let held = Written {
-        answer: Answer::Done,
-        writer: w,
-    };
-    let done = held.close(buf);
-    let answer = done.answer;
-    let shut = done.writer;
-    match answer {
-        Answer::Refused(cause) => cause.number(),
-        Answer::Done => {
-            let b = writer_bytes::to_bytes(shut);
-            *writer = b;
-            0
-        }
-    }
+    keep(held(writer).close(buf), writer)
 }
 
 #[unsafe(no_mangle)]
 pub extern "C" fn sb_place(writer: &[u8; 64]) -> u64
     ensures { result ≡ (writer_of writer.now).place }
 {
-    let w = writer_bytes::from_bytes(*writer);
-    w.place as u64
+    writer_bytes::from_bytes(*writer).place as u64
 }
 
 #[unsafe(no_mangle)]
 pub extern "C" fn sb_units(writer: &[u8; 64]) -> u64
     ensures { result ≡ (writer_of writer.now).count }
 {
-    let w = writer_bytes::from_bytes(*writer);
-    w.count
+    writer_bytes::from_bytes(*writer).count
 }
 
 #[unsafe(no_mangle)]
 pub extern "C" fn sb_calls(writer: &[u8; 64]) -> u64
     ensures { result ≡ (writer_of writer.now).total }
 {
-    let w = writer_bytes::from_bytes(*writer);
-    w.total
+    writer_bytes::from_bytes(*writer).total
 }

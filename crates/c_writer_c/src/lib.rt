@@ -1,5 +1,5 @@
-// What C links of the functions that write a book. They are those of c_writer, with its clauses: c_writer is a library, since c_book's
-// theorem speaks of its definitions, and only a static library hands functions to C.
+// What C links of the functions that write a book, a name each. They are those of c_writer, with its clauses: c_writer is a library, since
+// c_book's theorem speaks of its definitions, and only a static library hands functions to C.
 #![tactic(auto)]
 
 ghost use Rattle.std.specs.Prelude.{◌≡◌};

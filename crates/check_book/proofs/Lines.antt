@@ -1,4 +1,5 @@
 -- Strings put one behind the other, and laws of the lines.
+use Rattle.std.specs.Prelude.{Ok, Err}
 use mathlib.Core.Path.{◌≡◌, refl, sym, ap, ◌∙◌}
 use mathlib.Core.Bool.{Bool, true, false, cond}
 use mathlib.Core.List.{List, ◌++◌, append_assoc, append-nil}
@@ -15,9 +16,7 @@ use Rattle.suites.specs.declared.refusal.Refusal.TheVariants.{TagDiffers}
 use Rattle.bits.proofs.Lists.{part_rest}
 use Rattle.sums.proofs.Sums.{part_none}
 use Rattle.opening_fields.specs.Opening.{check_tests}
-use Rattle.checker.specs.Check.{check_answer, check_answer_of}
-use Rattle.checker.specs.declared.check.CheckAnswer.{CheckAnswer}
-use Rattle.checker.specs.declared.check.CheckAnswer.TheVariants.{Accepted, Refused}
+use Rattle.checker.specs.Check.{check_answer, check_answer_of, CheckAnswer, accepted}
 use Rattle.check_book.specs.Behind.{Behind}
 use Rattle.decimal.specs.Ascii.{ascii}
 use Rattle.check_book.specs.Line.{answer_line, line}
@@ -60,11 +59,11 @@ within {s} {d} w = omega (arith, w.count, ap length w.bytes ∙ length-append s 
 
 -- the lines that the scope states
 
-pub line_ok : answer_line (Accepted 1 7) ≡ ascii "ok units=1 calls=7\n"
+pub line_ok : answer_line (accepted 1 7) ≡ ascii "ok units=1 calls=7\n"
 unfolding digits digits_in
 line_ok = refl
 
-pub line_refused : answer_line (Refused TagDiffers) ≡ ascii "refused 8\n"
+pub line_refused : answer_line (Err TagDiffers) ≡ ascii "refused 8\n"
 unfolding digits digits_in
 line_refused = refl
 
@@ -76,8 +75,8 @@ line_short_key input h =
 
 -- an answer's numbers are below 2 ^ 64, as those of the code are
 abbrev Fit : CheckAnswer → Type 0
-Fit (Accepted units calls) = (units < 2 ^ 64) × (calls < 2 ^ 64)
-Fit (Refused why) = number why < 2 ^ 64
+Fit (Ok t) = (t.units < 2 ^ 64) × (t.calls < 2 ^ 64)
+Fit (Err why) = number why < 2 ^ 64
 
 -- then a line has at most 57 bytes
 pub line_length : (input : List ℕ) → Fit (check_answer (take 16 input) (drop 16 input)) → length (line input) ≤ 57
@@ -85,8 +84,8 @@ unfolding line
 line_length input fit = by (leb (length input) 65520)
   where
     of : (a : CheckAnswer) → Fit a → length (answer_line a) ≤ 57
-    of (Accepted units calls) f = simp length-append (omega (arith, digits_u64 units f.0, digits_u64 calls f.1))
-    of (Refused why) f = simp length-append (omega (arith, digits_u64 (number why) f))
+    of (Ok t) f = simp length-append (omega (arith, digits_u64 t.units f.0, digits_u64 t.calls f.1))
+    of (Err why) f = simp length-append (omega (arith, digits_u64 (number why) f))
 
     by : (b : Bool) → length (cond b (answer_line (check_answer (take 16 input) (drop 16 input))) (ascii "too long\n")) ≤ 57
     by true = of (check_answer (take 16 input) (drop 16 input)) fit

@@ -1,14 +1,14 @@
 // Checks the book at standard input, behind the 16 bytes of its key, and writes one line: `ok units=1 calls=7`, `refused 8`, or `too long`.
 #![tactic(auto)]
 
-ghost use Rattle.std.specs.Prelude.{◌≡◌, ◌+◌, ◌≤◌, length, take, drop};
+ghost use Rattle.std.specs.Prelude.{◌≡◌, ◌+◌, ◌≤◌, length, take, drop, Err};
 ghost use Rattle.decimal.specs.Decimal.{digits, AtStart};
 ghost use Rattle.checker.specs.Check.{check_answer};
-ghost use Rattle.checker.specs.declared.check.CheckAnswer.TheVariants.{Accepted, Refused};
+ghost use Rattle.checker.specs.Check.{accepted};
 ghost use Rattle.check_book.specs.Line.{answer_line, line};
 ghost use Rattle.check_book.specs.Behind.{Behind};
 
-use checker::check::CheckAnswer;
+use checker::check::Totals;
 use std::io;
 use suites::refusal::Refusal;
 
@@ -31,9 +31,8 @@ fn put_number(n: u64, out: &mut [u8], at: usize) -> usize
 }
 
 // The line of a book that is accepted, at the start of an output that has room for it: its length.
-fn accepted(units: u64, calls: u64, out: &mut [u8]) -> usize
-    requires { 64 ≤ length out.old }
-    ensures { AtStart (answer_line (Accepted units calls)) out.old out.new result }
+fn accepted(units: u64, calls: u64, out: &mut [u8; 64]) -> usize
+    ensures { AtStart (answer_line (accepted units calls)) out.old out.new result }
 {
     let a = put_text(b"ok units=", out, 0);
     let b = put_number(units, out, a);
@@ -43,9 +42,8 @@ fn accepted(units: u64, calls: u64, out: &mut [u8]) -> usize
 }
 
 // The line of a refusal.
-fn refused(why: Refusal, out: &mut [u8]) -> usize
-    requires { 64 ≤ length out.old }
-    ensures { AtStart (answer_line (Refused why)) out.old out.new result }
+fn refused(why: Refusal, out: &mut [u8; 64]) -> usize
+    ensures { AtStart (answer_line (Err why)) out.old out.new result }
 {
     let a = put_text(b"refused ", out, 0);
     let b = put_number(why.number() as u64, out, a);
@@ -53,18 +51,17 @@ fn refused(why: Refusal, out: &mut [u8]) -> usize
 }
 
 // The line of either answer.
-fn answer_line(answer: CheckAnswer, out: &mut [u8]) -> usize
-    requires { 64 ≤ length out.old }
+fn answer_line(answer: Result<Totals, Refusal>, out: &mut [u8; 64]) -> usize
     ensures { AtStart (answer_line answer) out.old out.new result }
 {
     match answer {
-        CheckAnswer::Refused(why) => refused(why, out),
-        CheckAnswer::Accepted(units, calls) => accepted(units, calls, out),
+        Err(why) => refused(why, out),
+        Ok(totals) => accepted(totals.units, totals.calls, out),
     }
 }
 
 // The answer of check for a key and the book behind it.
-fn checked(input: &[u8]) -> CheckAnswer
+fn checked(input: &[u8]) -> Result<Totals, Refusal>
     ensures { result ≡ check_answer (take 16 input.now) (drop 16 input.now) }
 {
     if input.len() < 16 {
@@ -86,7 +83,7 @@ fn line(input: &[u8], out: &mut [u8; 64]) -> usize
 
 fn main(rt: HostRuntime) -> io::Result<()> {
     // 16 bytes longer than the longest key and book that are read
-    let mut buf = input::large_buffer();
+    let mut buf = input::buffer::<65536>();
     // a read that fails counts as the end of the input
     let (n, _) = input::read_full(&mut rt.reader(), &mut buf);
     let mut out = [0u8; 64];

@@ -1,4 +1,6 @@
 -- The checker's half of demand 3 holds: check accepts exactly the books of the layout.
+use Rattle.suites.specs.Answer.{Answer}
+use Rattle.std.specs.Prelude.{Ok, Err}
 use mathlib.Core.Path.{◌≡◌, refl, sym, ap, ◌∙◌}
 use mathlib.Core.Bool.{true}
 use mathlib.Core.List.{List, [], ◌∷◌, ◌++◌}
@@ -10,8 +12,6 @@ use lib.Dec.{eqb}
 use lib.ListN.{length}
 use Rattle.bits.specs.Bytes.{Bytes}
 use Rattle.bits.proofs.Bytes.{bytes_drop}
-use Rattle.suites.specs.declared.refusal.Answer.{Answer}
-use Rattle.suites.specs.declared.refusal.Answer.TheVariants.{Done, Refused}
 use Rattle.suites.specs.declared.refusal.Refusal.TheVariants.{KeyLength}
 use Rattle.suites.specs.declared.suite.Suite.{Suite}
 use Rattle.suites.specs.Suite.{listed}
@@ -23,15 +23,13 @@ use Rattle.fields.specs.Unit.{BookUnit}
 use Rattle.parser.specs.Frame.{most_units, Readable}
 use Rattle.opening_fields.specs.Opening.{opening_number, opening_suite, opening_bytes, after_opening, opening_tests, check_tests}
 use Rattle.opening_fields.proofs.Openings.{opening_here, front_here, front_says, front_rest, front_listed, front_held}
-use Rattle.checker.specs.Check.{check_from, after_tests, check_answer_of}
+use Rattle.checker.specs.Check.{check_from, after_tests, check_answer_of, CheckAnswer, accepted}
 use Rattle.checker.specs.Exact.{book_sealings, IsBook, CheckerHalf}
-use Rattle.checker.specs.declared.check.CheckAnswer.{CheckAnswer}
-use Rattle.checker.specs.declared.check.CheckAnswer.TheVariants.{Accepted}
 use Rattle.checker.proofs.From.{bytes_from, sealings_from, from_told, from_here}
 
-tests_accepted : (a : Answer) (w : CheckAnswer) (n t : ℕ) → after_tests a w ≡ Accepted n t → (a ≡ Done) × (w ≡ Accepted n t)
-tests_accepted Done w n t e = (refl, e)
-tests_accepted (Refused why) w n t e = let z : ◌≡◌ {A = ℕ} 0 1 = cc in absurd (omega arith)
+tests_accepted : (a : Answer) (w : CheckAnswer) (n t : ℕ) → after_tests a w ≡ accepted n t → (a ≡ Ok tt) × (w ≡ accepted n t)
+tests_accepted (Ok tt) w n t e = (refl, e)
+tests_accepted (Err why) w n t e = let z : ◌≡◌ {A = ℕ} 0 1 = cc in absurd (omega arith)
 
 -- behind opening fields as a writer makes them the tests before the frames are done, whatever is done with the frames
 pub opens : (suite : Suite) (key : List ℕ) (number : ℕ) (r : List ℕ) → listed suite.cipher suite.steps ≡ true → length key ≡ 16 → number < 2 ^ 64
@@ -41,7 +39,7 @@ unfolding check_tests
 opens suite key number r ok long fits frames =
     let x : List ℕ = opening_fields suite number ++ r in
     let h = opening_here suite number r fits ok in
-    let tests : check_tests (length key) x ≡ Done =
+    let tests : check_tests (length key) x ≡ (Ok tt) =
     unless_passes (eqb (length key) 16) KeyLength (opening_tests x) (eq-eqb (length key) 16 long) h.0 in
     λ j. after_tests (tests j) (frames (front_here suite number r j) (h.3 j))
 
@@ -61,7 +59,7 @@ module _ (kind : Kind) (readable : Readable kind) (key s : List ℕ) (n t : ℕ)
   unfolding after_opening
   bytes_rest b = bytes_drop 16 s b
 
-  accepted-is : Bytes key → Bytes s → check_answer_of kind key s ≡ Accepted n t → IsBook kind key s n t
+  accepted-is : Bytes key → Bytes s → check_answer_of kind key s ≡ accepted n t → IsBook kind key s n t
   unfolding check_answer_of check_tests
   accepted-is key_bytes b e =
       let o = opening_bytes s in
@@ -92,7 +90,7 @@ module _ (kind : Kind) (readable : Readable kind) (key s : List ℕ) (n t : ℕ)
         total = ap call_total (sealings_are kind suite number us) ∙ omega arith;
       }
 
-  is-accepted : IsBook kind key s n t → check_answer_of kind key s ≡ Accepted n t
+  is-accepted : IsBook kind key s n t → check_answer_of kind key s ≡ accepted n t
   unfolding check_answer_of
   is-accepted i =
       let suite = i.suite in
@@ -111,8 +109,8 @@ module _ (kind : Kind) (readable : Readable kind) (key s : List ℕ) (n t : ℕ)
       ∙ from_here kind key f (λ j. opening_fields (sym says.0 j) (sym says.1 j)) book.key_long book.key_bytes readable.well_formed
       (suc most_units) 0 0 us book.units
       (omega arith) (omega arith) (omega arith)
-      ∙ (λ j. Accepted (c j) (0 + call_total (sealings_from kind (says.0 j) (says.1 j) 0 us)))
-      ∙ (λ j. Accepted n (calls j))
+      ∙ (λ j. accepted (c j) (0 + call_total (sealings_from kind (says.0 j) (says.1 j) 0 us)))
+      ∙ (λ j. accepted n (calls j))
 
 pub checker_half : (kind : Kind) → Readable kind → CheckerHalf kind
 checker_half kind readable = record { accepted = accepted-is kind readable; accepts = is-accepted kind readable }

@@ -1,4 +1,7 @@
 -- The frames from a place of a book on: what is accepted there is units, then a close, and all of these are accepted.
+use Rattle.parser.specs.FrameAnswer.{FrameAnswer}
+use Rattle.parser.specs.declared.frame.Frame.TheVariants.{Close, Unit}
+use Rattle.std.specs.Prelude.{Ok, Err}
 use mathlib.Core.Path.{◌≡◌, refl, sym, ap, ◌∙◌}
 use mathlib.Core.List.{List, [], ◌∷◌, ◌++◌, append_assoc}
 use Prim.Native.Nat.{ℕ, zero, suc, ◌+◌, ◌^◌, ◌≤◌, ◌<◌}
@@ -15,14 +18,11 @@ use Rattle.format.specs.Sealings.{Sealing, opening_fields, unit_header, close_he
 use Rattle.fields.specs.Unit.{BookUnit, Allowed, details_of, unit_text}
 use Rattle.fields.proofs.Details.{length_details_of}
 use Rattle.format.proofs.Lengths.{length_opening_fields, length_unit_header, length_close_header}
-use Rattle.parser.specs.declared.frame.Frame.{Frame}
-use Rattle.parser.specs.declared.frame.Frame.TheVariants.{Unit, Close, Refused as FrameRefused}
 use Rattle.kinds.specs.Lengths.{header_length, close_header_length, unit_calls, close_calls}
 use Rattle.parser.specs.Frame.{most_units, after_unit}
 use Rattle.opening_fields.specs.Opening.{opening_number, opening_suite}
-use Rattle.checker.specs.Check.{checked_at, by_frame, check_from}
-use Rattle.checker.specs.declared.check.CheckAnswer.{CheckAnswer}
-use Rattle.checker.specs.declared.check.CheckAnswer.TheVariants.{Accepted}
+use Rattle.checker.specs.declared.check.Totals.{Totals}
+use Rattle.checker.specs.Check.{checked_at, by_frame, check_from, CheckAnswer, accepted}
 use Rattle.checker.proofs.Units.{UnitRead, unit_read, unit_written}
 use Rattle.checker.proofs.Closes.{close_read, close_written}
 
@@ -81,10 +81,11 @@ module _ (kind : Kind) (suite : Suite) (key : List ℕ) (number : ℕ) where
     pub few : c ≤ most_units
 
   from-close : (n total : ℕ) (s : List ℕ) (c t : ℕ) → n ≤ most_units → s ≡ close_bytes kind suite key number n → n < 256 ^ kind.number_bytes
-      → Accepted n (total + close_calls kind) ≡ Accepted c t → Accepts n total s c t
+      → accepted n (total + close_calls kind) ≡ accepted c t → Accepts n total s c t
   from-close n total s c t few bytes fits e =
-      let count : n ≡ c = cc in
-      let sum : total + close_calls kind ≡ t = cc in
+      let same : ◌≡◌ {A = Totals} (record { units = n; calls = total + close_calls kind }) (record { units = c; calls = t }) = cc in
+      let count : n ≡ c = ap (λ (r : Totals). r.units) same in
+      let sum : total + close_calls kind ≡ t = ap (λ (r : Totals). r.calls) same in
       record {
         units = [];
         allowed = none_from;
@@ -112,12 +113,12 @@ module _ (kind : Kind) (suite : Suite) (key : List ℕ) (number : ℕ) where
       }
 
 -- by the frame at the place
-pub from_step : (kind : Kind) (key o : List ℕ) (left n total : ℕ) (s : List ℕ) (f : Frame) → checked_at kind key o n s ≡ f
+pub from_step : (kind : Kind) (key o : List ℕ) (left n total : ℕ) (s : List ℕ) (f : FrameAnswer) → checked_at kind key o n s ≡ f
     → check_from kind key o (suc left) n total s
-    ≡ by_frame f (λ (m : ℕ). check_from kind key o left (suc n) (total + unit_calls kind m) (after_unit kind m s)) (Accepted n (total + close_calls kind))
+    ≡ by_frame f (λ (m : ℕ). check_from kind key o left (suc n) (total + unit_calls kind m) (after_unit kind m s)) (accepted n (total + close_calls kind))
 unfolding check_from
 from_step kind key o left n total s f e =
-    λ i. by_frame (e i) (λ (m : ℕ). check_from kind key o left (suc n) (total + unit_calls kind m) (after_unit kind m s)) (Accepted n (total + close_calls kind))
+    λ i. by_frame (e i) (λ (m : ℕ). check_from kind key o left (suc n) (total + unit_calls kind m) (after_unit kind m s)) (accepted n (total + close_calls kind))
 
 -- under the opening fields o, as a writer makes them
 module _ (kind : Kind) (key o : List ℕ) (held : o ≡ opening_fields (opening_suite o) (opening_number o)) (long : length key ≡ 16) (key_bytes : Bytes key) where
@@ -127,19 +128,19 @@ module _ (kind : Kind) (key o : List ℕ) (held : o ≡ opening_fields (opening_
   abbrev number : ℕ
   number = opening_number o
 
-  from-frame : (n total : ℕ) (s : List ℕ) (c t : ℕ) (rest : ℕ → CheckAnswer) (f : Frame) → checked_at kind key o n s ≡ f → n ≤ most_units → Bytes s
-      → ((m : ℕ) → n < most_units → Bytes (after_unit kind m s) → rest m ≡ Accepted c t
+  from-frame : (n total : ℕ) (s : List ℕ) (c t : ℕ) (rest : ℕ → CheckAnswer) (f : FrameAnswer) → checked_at kind key o n s ≡ f → n ≤ most_units → Bytes s
+      → ((m : ℕ) → n < most_units → Bytes (after_unit kind m s) → rest m ≡ accepted c t
       → Accepts kind suite key number (suc n) (total + unit_calls kind m) (after_unit kind m s) c t)
-      → by_frame f rest (Accepted n (total + close_calls kind)) ≡ Accepted c t → Accepts kind suite key number n total s c t
-  from-frame n total s c t rest (Unit m) q few b w e =
+      → by_frame f rest (accepted n (total + close_calls kind)) ≡ accepted c t → Accepts kind suite key number n total s c t
+  from-frame n total s c t rest (Ok (Unit m)) q few b w e =
       let r = unit_read kind key o held long key_bytes n s b m q in
       from-unit kind suite key number n total m s c t r (w m r.few r.rest e)
-  from-frame n total s c t rest Close q few b w e =
+  from-frame n total s c t rest (Ok Close) q few b w e =
       let r = close_read kind key o held long key_bytes n s b q in
       from-close kind suite key number n total s c t few r.0 r.1 e
-  from-frame n total s c t rest (FrameRefused why) q few b w e = let z : ◌≡◌ {A = ℕ} 0 1 = cc in absurd (omega arith)
+  from-frame n total s c t rest (Err why) q few b w e = let z : ◌≡◌ {A = ℕ} 0 1 = cc in absurd (omega arith)
 
-  pub from_told : (left n total : ℕ) (s : List ℕ) (c t : ℕ) → n ≤ most_units → Bytes s → check_from kind key o left n total s ≡ Accepted c t
+  pub from_told : (left n total : ℕ) (s : List ℕ) (c t : ℕ) → n ≤ most_units → Bytes s → check_from kind key o left n total s ≡ accepted c t
       → Accepts kind suite key number n total s c t
   unfolding check_from
   from_told zero n total s c t few b e = let z : ◌≡◌ {A = ℕ} 0 1 = cc in absurd (omega arith)
@@ -152,12 +153,12 @@ module _ (kind : Kind) (key o : List ℕ) (held : o ≡ opening_fields (opening_
   pub from_here : WellFormed kind → (left n total : ℕ) (us : List BookUnit) → EachFrom (Allowed kind) n us → length us < left
       → n + length us ≤ most_units → n + length us < 256 ^ kind.number_bytes
       → check_from kind key o left n total (bytes_from kind suite key number n us)
-      ≡ Accepted (n + length us) (total + call_total (sealings_from kind suite number n us))
+      ≡ accepted (n + length us) (total + call_total (sealings_from kind suite number n us))
   from_here wf zero n total us each less few fits = absurd (omega arith)
   from_here wf (suc left) n total [] none_from less few fits =
       ap (check_from kind key o (suc left) n total) (bytes_none kind suite key number n)
-      ∙ from_step kind key o left n total (close_bytes kind suite key number n) Close (close_written kind key o held long key_bytes n wf (omega arith))
-      ∙ (λ i. Accepted (sym (add-zero n) i) (total + sym (calls-none kind suite number n) i))
+      ∙ from_step kind key o left n total (close_bytes kind suite key number n) (Ok Close) (close_written kind key o held long key_bytes n wf (omega arith))
+      ∙ (λ i. accepted (sym (add-zero n) i) (total + sym (calls-none kind suite number n) i))
   from_here wf (suc left) n total (u ∷ us) (more_from a each) less few fits =
       let m : ℕ = length (unit_text u.source u.target) in
       let w = unit_written kind key o held long key_bytes n wf (omega arith) (omega arith) u a (bytes_from kind suite key number (suc n) us) in
@@ -165,7 +166,7 @@ module _ (kind : Kind) (key o : List ℕ) (held : o ≡ opening_fields (opening_
       ≡ total + call_total (sealings_from kind suite number n (u ∷ us)) =
       omega (arith, calls-more kind suite number n u us a) in
       ap (check_from kind key o (suc left) n total) (bytes_more kind suite key number n u us)
-      ∙ from_step kind key o left n total (unit_bytes kind suite key number n u ++ bytes_from kind suite key number (suc n) us) (Unit m) w.0
+      ∙ from_step kind key o left n total (unit_bytes kind suite key number n u ++ bytes_from kind suite key number (suc n) us) (Ok (Unit m)) w.0
       ∙ ap (check_from kind key o left (suc n) (total + unit_calls kind m)) w.1
       ∙ from_here wf left (suc n) (total + unit_calls kind m) us each (omega arith) (omega arith) (omega arith)
-      ∙ (λ i. Accepted (sym (next n u us) i) (sum i))
+      ∙ (λ i. accepted (sym (next n u us) i) (sum i))

@@ -6,3 +6,4 @@ pub mod Exact
 pub mod Turns
 pub mod BookKinds
 pub mod Told
+pub mod Tests

@@ -1,4 +1,8 @@
 -- One unit: what is read was written, and what was written is read.
+use Rattle.suites.specs.Answer.{Answer}
+use Rattle.parser.specs.FrameAnswer.{FrameAnswer}
+use Rattle.parser.specs.declared.frame.Frame.TheVariants.{Unit}
+use Rattle.std.specs.Prelude.{Ok}
 use mathlib.Core.Path.{◌≡◌, refl, sym, ap, ◌∙◌}
 use mathlib.Core.Bool.{true, and-eq-true_iff}
 use mathlib.Core.List.{List, ◌++◌, append_assoc}
@@ -10,8 +14,6 @@ use lib.ListN.{length, take, drop}
 use lib.Seq.{take_at, drop_at, take_all}
 use Rattle.bits.specs.Bytes.{Bytes}
 use Rattle.bits.proofs.Bytes.{bytes_append, bytes_take, bytes_drop}
-use Rattle.suites.specs.declared.refusal.Answer.{Answer}
-use Rattle.suites.specs.declared.refusal.Answer.TheVariants.{Done}
 use Rattle.suites.specs.declared.suite.Suite.{Suite}
 use Rattle.limits.proofs.Passed.{unless_passed, unless_passes}
 use Rattle.fields.specs.Field.{field_value, after_field}
@@ -33,8 +35,6 @@ use Rattle.fields.proofs.Texts.{
   length_target_of,
   text_held,
 }
-use Rattle.parser.specs.declared.frame.Frame.{Frame}
-use Rattle.parser.specs.declared.frame.Frame.TheVariants.{Unit}
 use Rattle.parser.specs.Frame.{most_units, frame_details, frame_from, frame_to, after_header, frame_sealed, after_unit, frame_of, frame_at}
 use Rattle.opening_fields.specs.Opening.{opening_number, opening_suite}
 use Rattle.fields.proofs.Values.{bytes_value, bytes_after}
@@ -157,7 +157,7 @@ module _ (kind : Kind) (key o : List ℕ) (held : o ≡ opening_fields (opening_
             few = told.few;
           }
 
-    pub unit_read : checked_at kind key o n s ≡ Unit m → UnitRead kind suite key number n m s (unit_opened kind key o n m s)
+    pub unit_read : checked_at kind key o n s ≡ Ok (Unit m) → UnitRead kind suite key number n m s (unit_opened kind key o n m s)
     unfolding checked_at unit_seal_tests unit_agrees unit_opened
     unit_read e =
         let h : List ℕ = unit_along kind o s in
@@ -196,7 +196,7 @@ module _ (kind : Kind) (key o : List ℕ) (held : o ≡ opening_fields (opening_
         ap (take kind.code_bytes) (drop_at u.from u.to kind.code_bytes g.from_long) ∙ take_all kind.code_bytes u.to (le_of_eq g.to_long) in
         (λ i. pair_allowed (take_at u.from u.to kind.code_bytes g.from_long i) (to i)) ∙ a.languages
 
-    read_back : (frame_at kind n s ≡ Unit (length t)) × (frame_details kind s ≡ d) × (frame_sealed kind (length t) s ≡ x) × (after_unit kind (length t) s ≡ rest)
+    read_back : (frame_at kind n s ≡ Ok (Unit (length t))) × (frame_details kind s ≡ d) × (frame_sealed kind (length t) s ≡ x) × (after_unit kind (length t) s ≡ rest)
     read_back =
         let range = range_told (length u.source) (length u.target) a.range in
         let lt = length_unit_text u.source u.target in
@@ -221,17 +221,17 @@ module _ (kind : Kind) (key o : List ℕ) (held : o ≡ opening_fields (opening_
         ∙ in_range_unit_text u.source u.target
         ∙ a.range
 
-    outcome : unit_seal_tests kind key o n (length t) s ≡ Done
+    outcome : unit_seal_tests kind key o n (length t) s ≡ Ok tt
     unfolding unit_seal_tests
     outcome = unless_passes _ _ _ opened-back.0 (unless_passes _ _ _ in-range refl)
 
-    pub unit_written : (checked_at kind key o n (unit_bytes kind suite key number n u ++ rest) ≡ Unit (length t))
+    pub unit_written : (checked_at kind key o n (unit_bytes kind suite key number n u ++ rest) ≡ Ok (Unit (length t)))
         × (after_unit kind (length t) (unit_bytes kind suite key number n u ++ rest) ≡ rest)
     unfolding checked_at
     unit_written = (
       ap (checked_at kind key o n) s-is
-          ∙ ap (λ (f : Frame). with_seal f (λ (k : ℕ). unit_seal_tests kind key o n k s) (close_seal_tests kind key o n s)) read_back.0
-          ∙ ap (λ (o : Answer). frame_of o (Unit (length t))) outcome,
+          ∙ ap (λ (f : FrameAnswer). with_seal f (λ (k : ℕ). unit_seal_tests kind key o n k s) (close_seal_tests kind key o n s)) read_back.0
+          ∙ ap (λ (o : Answer). frame_of o (Ok (Unit (length t)))) outcome,
       ap (after_unit kind (length t)) s-is ∙ read_back.3,
     )
 

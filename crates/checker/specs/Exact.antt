@@ -7,8 +7,7 @@ use Rattle.fields.specs.Kind.{Kind}
 use Rattle.format.specs.Layout.{book_bytes, Bookable}
 use Rattle.format.specs.Sealings.{Sealing, unit_sealings, close_sealing, call_total}
 use Rattle.fields.specs.Unit.{BookUnit}
-use Rattle.checker.specs.Check.{check_answer_of}
-use Rattle.checker.specs.declared.check.CheckAnswer.TheVariants.{Accepted}
+use Rattle.checker.specs.Check.{check_answer_of, accepted as told}
 
 -- the sealings of a whole book: its units', then its close's
 unfoldable pub book_sealings : Kind → Suite → ℕ → List BookUnit → List Sealing
@@ -26,6 +25,6 @@ pub record IsBook (kind : Kind) (key s : List ℕ) (n t : ℕ) : Type 0 where
 
 pub record CheckerHalf (kind : Kind) : Type 0 where
   -- what is accepted is a book, with the count and the call total that are returned
-  pub accepted : (key s : List ℕ) (n t : ℕ) → Bytes key → Bytes s → check_answer_of kind key s ≡ Accepted n t → IsBook kind key s n t
+  pub accepted : (key s : List ℕ) (n t : ℕ) → Bytes key → Bytes s → check_answer_of kind key s ≡ told n t → IsBook kind key s n t
   -- every book is accepted
-  pub accepts : (key s : List ℕ) (n t : ℕ) → IsBook kind key s n t → check_answer_of kind key s ≡ Accepted n t
+  pub accepts : (key s : List ℕ) (n t : ℕ) → IsBook kind key s n t → check_answer_of kind key s ≡ told n t

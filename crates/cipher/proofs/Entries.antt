@@ -1,4 +1,6 @@
 -- Runs of steps under a suite that is listed, and one that is not.
+use Rattle.suites.specs.Answer.{Answer}
+use Rattle.std.specs.Prelude.{Ok, Err}
 use mathlib.Core.Path.{◌≡◌, refl, sym, ap, ◌∙◌}
 use mathlib.Core.List.{List}
 use mathlib.Core.Bool.{Bool, true, false, cond, ◌&&◌, ◌||◌, and-eq-true_iff}
@@ -10,14 +12,14 @@ use lib.ListN.{length}
 use Rattle.rounds.specs.declared.Cipher.{Cipher}
 use Rattle.rounds.specs.Cipher.{encipher, decipher}
 use Rattle.blockwise.specs.Blocks.{each_block}
-use Rattle.runs.specs.Run.{each_up_to14}
+use Rattle.runs.specs.Run.{ahead_block, back_block, block_by, each_up_to14}
+use Rattle.runs.proofs.Runs.{encipher_run, decipher_run}
+use Rattle.turns.specs.Turns.{ciphered}
 use Rattle.state.specs.Block.{Block}
 use Rattle.blockwise.proofs.Each.{each_one, each_ext}
 use Rattle.rounds.proofs.Inverse.{decipher_encipher, encipher_decipher}
-use Rattle.suites.specs.declared.refusal.Answer.{Answer}
-use Rattle.suites.specs.declared.refusal.Answer.TheVariants.{Done, Refused}
 use Rattle.suites.specs.declared.refusal.Refusal.TheVariants.{SuiteNotListed}
-use Rattle.suites.specs.Suite.{listed, cipher_of}
+use Rattle.suites.specs.Suite.{listed, cipher_of, suite_answer}
 use Rattle.cipher.specs.Entry.{enciphered, deciphered, enciphered_blocks, deciphered_blocks}
 
 -- no suite has more than 14 steps
@@ -51,23 +53,23 @@ module _ (f g : Cipher → ℕ → List ℕ → List ℕ → List ℕ → List �
   under l = cond l (each_block (g (cipher_of cipher) n key) t b) b
 
   abbrev answer : Bool → Answer
-  answer l = cond l Done (Refused SuiteNotListed)
+  answer l = cond l (Ok tt) (Err SuiteNotListed)
 
-  pub unlisted_run : listed cipher n ≡ false → (Refused SuiteNotListed ≡ answer (listed cipher n)) × (b ≡ under (listed cipher n))
+  pub unlisted_run : listed cipher n ≡ false → (Err SuiteNotListed ≡ answer (listed cipher n)) × (b ≡ under (listed cipher n))
   unlisted_run e = (ap answer (sym e), ap under (sym e))
 
   pub listed_run : listed cipher n ≡ true → {c : Cipher} → c ≡ cipher_of cipher → {x : List ℕ} → x ≡ each_up_to14 (0 + n) (f c n key) t b
-      → (Done ≡ answer (listed cipher n)) × (x ≡ under (listed cipher n))
+      → ((Ok tt) ≡ answer (listed cipher n)) × (x ≡ under (listed cipher n))
   listed_run e {c} ec ex =
       let few : leb (0 + n) 14 ≡ true = le-leb (0 + n) 14 (omega (arith, listed_steps cipher n e)) in
       let each : each_block (f c n key) t b ≡ each_block (g (cipher_of cipher) n key) t b =
       ap (λ (k : Cipher). each_block (f k n key) t b) ec ∙ each_ext (same (cipher_of cipher) n key) t b in
       (ap answer (sym e), ex ∙ (λ i. cond (few i) (each i) b) ∙ ap under (sym e))
 
-  -- the same without runs
-  pub listed_many : listed cipher n ≡ true → {c : Cipher} → c ≡ cipher_of cipher → {x : List ℕ} → x ≡ each_block (g c n key) t b
-      → (Done ≡ answer (listed cipher n)) × (x ≡ under (listed cipher n))
-  listed_many e ec ex = (ap answer (sym e), ex ∙ ap (λ (k : Cipher). each_block (g k n key) t b) ec ∙ ap under (sym e))
+-- the one way or the other
+pub ciphered_is : (ahead : Bool) (k : Cipher) (n : ℕ) (key : List ℕ) → ciphered ahead k n key ≡ cond ahead (encipher k n key) (decipher k n key)
+ciphered_is true k n key = refl
+ciphered_is false k n key = refl
 
 -- many blocks that are one
 module _ (cipher n : ℕ) (key t b : List ℕ) (ht : length t ≡ 16) (hb : length b ≡ 16) where
@@ -78,6 +80,31 @@ module _ (cipher n : ℕ) (key t b : List ℕ) (ht : length t ≡ 16) (hb : leng
   pub deciphered_one : deciphered_blocks cipher n key t b ≡ deciphered cipher n key t b
   unfolding deciphered_blocks deciphered
   deciphered_one = ap (λ (l : List ℕ). cond (listed cipher n) l b) (each_one (decipher (cipher_of cipher) n key) t b ht hb)
+
+-- one block by look-ups, the one way or the other: where the suite is not listed, and where it is
+module _ (cipher n : ℕ) (key t b : List ℕ) (ht : length t ≡ 16) (hb : length b ≡ 16) where
+  abbrev by_way : Bool → List ℕ
+  by_way ahead = cond ahead (enciphered cipher n key t b) (deciphered cipher n key t b)
+
+  pub stayed : (ahead : Bool) → listed cipher n ≡ false → (Err SuiteNotListed ≡ suite_answer cipher n) × (b ≡ by_way ahead)
+  unfolding enciphered_blocks deciphered_blocks
+  stayed true e =
+      let r = unlisted_run (λ k n. ahead_block k 0 n true) encipher encipher_run cipher n key t b e in
+      (r.0, r.1 ∙ enciphered_one cipher n key t b ht hb)
+  stayed false e =
+      let r = unlisted_run (λ k n. back_block k 0 n true) decipher decipher_run cipher n key t b e in
+      (r.0, r.1 ∙ deciphered_one cipher n key t b ht hb)
+
+  pub looked_up : (ahead : Bool) → listed cipher n ≡ true → {c : Cipher} → c ≡ cipher_of cipher
+      → {x : List ℕ} → x ≡ each_up_to14 (0 + n) (block_by ahead c 0 n true key) t b
+      → ((Ok tt) ≡ suite_answer cipher n) × (x ≡ by_way ahead)
+  unfolding enciphered_blocks deciphered_blocks
+  looked_up true e ec ex =
+      let r = listed_run (λ k n. ahead_block k 0 n true) encipher encipher_run cipher n key t b e ec ex in
+      (r.0, r.1 ∙ enciphered_one cipher n key t b ht hb)
+  looked_up false e ec ex =
+      let r = listed_run (λ k n. back_block k 0 n true) decipher decipher_run cipher n key t b e ec ex in
+      (r.0, r.1 ∙ deciphered_one cipher n key t b ht hb)
 
 -- where one function undoes another, it does so under a condition
 undone : (f g : List ℕ → List ℕ) (b : List ℕ) → g (f b) ≡ b → (l : Bool) → cond l (g (cond l (f b) b)) (cond l (f b) b) ≡ b

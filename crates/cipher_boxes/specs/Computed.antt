@@ -35,11 +35,15 @@ boxes_in IScream d = box.IScream
 unfoldable pub sbox_entry : Cipher → Direction → ℕ → ℕ
 sbox_entry k d b = Sbox.column (Sbox.layer (sbox_in k d) (Sbox.alone b)) 0
 
--- what the L-layer makes of the byte b in a half of row 0: a half of that row
-unfoldable pub lbox_entry : Cipher → Direction → Half → Half → ℕ → ℕ
-lbox_entry k d from to b =
+-- what the L-layer by a matrix makes of the byte b in a half of row 0: a half of that row
+abbrev pub entry_by : List (List ℕ) → Half → Half → ℕ → ℕ
+entry_by m from to b =
     let w : List ℕ = in_half from b ∷ 0 ∷ 0 ∷ 0 ∷ 0 ∷ 0 ∷ 0 ∷ 0 ∷ [] in
-    half_of to (get_or (Lbox.layer (lbox_in k d) w) 0 0)
+    half_of to (get_or (Lbox.layer m w) 0 0)
+
+-- and so that of a cipher
+unfoldable pub lbox_entry : Cipher → Direction → Half → Half → ℕ → ℕ
+lbox_entry k d = entry_by (lbox_in k d)
 
 -- the entry of the table at a place, as the layers give it
 abbrev pub computed_by : Cipher → Direction → Rule → ℕ → ℕ

@@ -7,8 +7,7 @@ ghost use Rattle.planes.specs.Planes.{row_at};
 ghost use Rattle.plane_lbox.specs.Network.{times_at};
 ghost use Rattle.cipher_boxes.specs.Computed.{sbox_in, lbox_in, plane_sbox_entry, plane_lbox_entry};
 
-use crate::Direction;
-use printed::Half;
+use crate::{Direction, LTable};
 use rounds::Cipher;
 
 // The S-box of a cipher on sixty-four columns.
@@ -92,7 +91,7 @@ fn first_row(r: [u64; 16]) -> u16
 {
     let low = first([r[0], r[1], r[2], r[3], r[4], r[5], r[6], r[7]]);
     let high = first([r[8], r[9], r[10], r[11], r[12], r[13], r[14], r[15]]);
-    (high as u16) * 256 + (low as u16)
+    u16::from_be_bytes([high, low])
 }
 
 // What a cipher's S-box makes of a byte: it is the column of the first state.
@@ -103,9 +102,13 @@ pub fn sbox_entry(k: Cipher, d: Direction, b: u8) -> u8
 }
 
 // What a cipher's L-box makes of a byte in one half of the first state's row, and of that one half.
-pub fn lbox_entry(k: Cipher, d: Direction, from: Half, to: Half, b: u8) -> u8
-    ensures { result ≡ plane_lbox_entry k d from to b }
+pub fn lbox_entry(t: LTable, b: u8) -> u8
+    ensures { result ≡ plane_lbox_entry t.cipher t.direction t.from t.to b }
 {
-    let y = network(k, d, row_alone(printed::in_half(from, b)));
-    printed::half_of(to, first_row(y))
+    let y = network(
+        t.cipher,
+        t.direction,
+        row_alone(printed::in_half(t.from, b)),
+    );
+    printed::half_of(t.to, first_row(y))
 }

@@ -19,7 +19,7 @@ fn lines(rt: &impl Print, book: &[u8]) -> io::Result<()> {
 }
 
 fn main(rt: HostRuntime) -> io::Result<()> {
-    let mut buf = input::large_buffer();
+    let mut buf = input::buffer::<65536>();
     let (n, _) = input::read_full(&mut rt.reader(), &mut buf);
     lines(&rt, &buf[..n])
 }

@@ -130,3 +130,11 @@ digits_first = by_tens (λ n. 0 < n → 0x30 < get_or (digits n) 0 0) one more
 pub digits_within_all : (room n : ℕ) → length (digits n) ≤ room → digits_within room n ≡ digits n
 unfolding digits_within
 digits_within_all room n h = rw (le-leb (length (digits n)) room h)
+
+-- how many digits a number has that is at least the k-th power of ten and below the next
+pub length_power : (k n : ℕ) → 10 ^ k ≤ n → n < 10 * 10 ^ k → length (digits n) ≡ k + 1
+length_power zero n low high = length_one n (omega arith)
+length_power (suc k) n low high =
+    let power : 10 ^ suc k ≡ 10 * 10 ^ k = pow-succ' 10 k in
+    let some : 1 ≤ 10 ^ k = one-le-pow k 10 (omega arith) in
+    omega (arith, power, length_more n (omega arith), length_power k (n / 10) (omega arith) (omega arith))

@@ -14,13 +14,10 @@ fn last_digit(n: u64) -> u8
 pub fn count(n: u64) -> usize
     ensures { result ≡ length (digits n) }
 {
-    let mut k: usize = 1;
-    let mut rest = n;
-    while 9 < rest {
-        rest /= 10;
-        k += 1;
+    match n.checked_ilog10() {
+        Some(k) => k as usize + 1,
+        None => 1,
     }
-    k
 }
 
 // The digits of a number at the start of an output that has room for them, the last one behind the others. How many there are.

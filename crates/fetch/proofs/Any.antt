@@ -1,4 +1,8 @@
 -- What fetch hands out of any string stands there, sealed under the key.
+use Rattle.suites.specs.Answer.{Answer}
+use Rattle.parser.specs.FrameAnswer.{FrameAnswer}
+use Rattle.parser.specs.declared.frame.Frame.TheVariants.{Close, Unit}
+use Rattle.std.specs.Prelude.{Ok, Err}
 use mathlib.Core.Path.{◌≡◌, refl, sym, ap, subst, ◌∙◌}
 use mathlib.Core.Bool.{true}
 use mathlib.Core.List.{List, [], ◌∷◌, ◌++◌}
@@ -10,8 +14,6 @@ use lib.ListN.{length, take, drop}
 use lib.Seq.{take_at}
 use Rattle.bits.specs.Bytes.{Bytes}
 use Rattle.bits.proofs.Bytes.{bytes_drop}
-use Rattle.suites.specs.declared.refusal.Answer.{Answer}
-use Rattle.suites.specs.declared.refusal.Answer.TheVariants.{Done, Refused}
 use Rattle.suites.specs.declared.refusal.Refusal.TheVariants.{KeyLength, NoSuchUnit}
 use Rattle.suites.specs.Told.{Told, gives}
 use Rattle.limits.proofs.Passed.{unless_passed}
@@ -22,8 +24,6 @@ use Rattle.fields.proofs.Texts.{range_told}
 use Rattle.kinds.specs.Kind.{kind_of, book_kind}
 use Rattle.format.specs.Layout.{unit_bytes}
 use Rattle.format.specs.Sealings.{opening_fields}
-use Rattle.parser.specs.declared.frame.Frame.{Frame}
-use Rattle.parser.specs.declared.frame.Frame.TheVariants.{Unit, Close, Refused as FrameRefused}
 use Rattle.parser.specs.Frame.{after_unit, frame_of, frame_at}
 use Rattle.opening_fields.specs.Opening.{opening_number, opening_suite, opening_bytes, after_opening, opening_tests, check_tests}
 use Rattle.opening_fields.proofs.Openings.{opening_passed, front_suite, front_number, front_held}
@@ -31,9 +31,7 @@ use Rattle.seals.specs.Seal.{unit_opened, unit_seal_tests, close_seal_tests}
 use Rattle.checker.specs.Check.{with_seal, checked_at}
 use Rattle.checker.proofs.Units.{UnitRead, unit_read}
 use Rattle.walk.proofs.Places.{walked_to}
-use Rattle.fetch.specs.declared.unit.FetchAnswer.{FetchAnswer}
-use Rattle.fetch.specs.declared.unit.FetchAnswer.TheVariants.{Fetched, Refused as FetchRefused}
-use Rattle.fetch.specs.Fetch.{and_then, handed_out, room_test, unit_outcome, close_met, frame_outcome, frame_text, outcome_here, text_at}
+use Rattle.fetch.specs.Fetch.{and_then, handed_out, room_test, unit_outcome, close_met, frame_outcome, frame_text, outcome_here, text_at, FetchAnswer}
 use Rattle.fetch.specs.Fetch.{fetch_told, fetch_answer_of, fetch_answer, fetch_buffer}
 use Rattle.fetch.specs.Fetch.{placed_outcome, placed_text, placed_report, placed_told, placed_answer_of, placed_answer, placed_buffer_of, placed_buffer, next_of}
 use Rattle.fetch.specs.Hands.{with_next}
@@ -42,38 +40,38 @@ use Rattle.fetch.proofs.Handed.{source_is, target_is, handed_unit, there, fetch_
 use Rattle.fetch.proofs.Reached.{unit_length_lem}
 
 -- tests that are done, and then others
-then_done : (a b : Answer) → and_then a b ≡ Done → (a ≡ Done) × (b ≡ Done)
-then_done Done b e = (refl, e)
-then_done (Refused why) b e = let z : ◌≡◌ {A = ℕ} 0 1 = cc in absurd (omega arith)
+then_done : (a b : Answer) → and_then a b ≡ Ok tt → (a ≡ Ok tt) × (b ≡ Ok tt)
+then_done (Ok tt) b e = (refl, e)
+then_done (Err why) b e = let z : ◌≡◌ {A = ℕ} 0 1 = cc in absurd (omega arith)
 
 -- where the outcome is no refusal a unit stands
-frame_done : (unit : ℕ → Answer) (closed : Answer) (f : Frame) → frame_outcome f unit (and_then closed (Refused NoSuchUnit)) ≡ Done
-    → (m : ℕ) × (f ≡ Unit m) × (unit m ≡ Done)
-frame_done unit closed (Unit m) e = (m, refl, e)
-frame_done unit closed Close e =
-    let no = (then_done closed (Refused NoSuchUnit) e).1 in
+frame_done : (unit : ℕ → Answer) (closed : Answer) (f : FrameAnswer) → frame_outcome f unit (and_then closed (Err NoSuchUnit)) ≡ Ok tt
+    → (m : ℕ) × (f ≡ Ok (Unit m)) × (unit m ≡ Ok tt)
+frame_done unit closed (Ok (Unit m)) e = (m, refl, e)
+frame_done unit closed (Ok Close) e =
+    let no = (then_done closed (Err NoSuchUnit) e).1 in
     let z : ◌≡◌ {A = ℕ} 0 1 = cc in
     absurd (omega arith)
-frame_done unit closed (FrameRefused why) e = let z : ◌≡◌ {A = ℕ} 0 1 = cc in absurd (omega arith)
+frame_done unit closed (Err why) e = let z : ◌≡◌ {A = ℕ} 0 1 = cc in absurd (omega arith)
 
 -- an answer with values: the outcome is no refusal, and these are the values
 report_given : (a : Answer) (text : List ℕ) (p s t next : ℕ) → placed_told (placed_report a text p) ≡ gives (s ∷ t ∷ next ∷ [])
-    → (a ≡ Done) × (length (source_of text) ≡ s) × (length (target_of text) ≡ t) × (p ≡ next)
-report_given Done text p s t next e =
+    → (a ≡ Ok tt) × (length (source_of text) ≡ s) × (length (target_of text) ≡ t) × (p ≡ next)
+report_given (Ok tt) text p s t next e =
     let v : length (source_of text) ∷ length (target_of text) ∷ p ∷ [] ≡ s ∷ t ∷ next ∷ [] = ap (λ (x : Told). x.values) e in
     (refl, cc, cc, cc)
-report_given (Refused why) text p s t next e =
+report_given (Err why) text p s t next e =
     let v : [] ≡ s ∷ t ∷ next ∷ [] = ap (λ (x : Told). x.values) e in
     let z : ◌≡◌ {A = ℕ} 0 1 = cc in
     absurd (omega arith)
 
 with_given : (r : FetchAnswer) (s t next : ℕ) → fetch_told r ≡ gives (s ∷ t ∷ []) → placed_told (with_next r next) ≡ gives (s ∷ t ∷ next ∷ [])
-with_given (Fetched a b) s t next e =
-    let v : a ∷ b ∷ [] ≡ s ∷ t ∷ [] = ap (λ (x : Told). x.values) e in
-    let p : a ≡ s = cc in
-    let q : b ≡ t = cc in
+with_given (Ok l) s t next e =
+    let v : l.source ∷ l.target ∷ [] ≡ s ∷ t ∷ [] = ap (λ (x : Told). x.values) e in
+    let p : l.source ≡ s = cc in
+    let q : l.target ≡ t = cc in
     λ i. gives (p i ∷ q i ∷ next ∷ [])
-with_given (FetchRefused why) s t next e =
+with_given (Err why) s t next e =
     let v : [] ≡ s ∷ t ∷ [] = ap (λ (x : Told). x.values) e in
     let z : ◌≡◌ {A = ℕ} 0 1 = cc in
     absurd (omega arith)
@@ -90,12 +88,12 @@ module _ (key x : List ℕ) (key_bytes : Bytes key) (bytes : Bytes x) (n at : �
   abbrev y : List ℕ
   y = drop at x
 
-  module _ (done : placed_outcome (kind_of (book_kind x)) key x n at (length out) ≡ Done) where
-    both : (check_tests (length key) x ≡ Done) × (outcome_here kind key o n y (length out) ≡ Done)
+  module _ (done : placed_outcome (kind_of (book_kind x)) key x n at (length out) ≡ Ok tt) where
+    both : (check_tests (length key) x ≡ Ok tt) × (outcome_here kind key o n y (length out) ≡ Ok tt)
     unfolding placed_outcome
     both = then_done (check_tests (length key) x) (outcome_here kind key o n y (length out)) done
 
-    tests : (eqb (length key) 16 ≡ true) × (opening_tests x ≡ Done)
+    tests : (eqb (length key) 16 ≡ true) × (opening_tests x ≡ Ok tt)
     unfolding check_tests
     tests = unless_passed (eqb (length key) 16) KeyLength (opening_tests x) both.0
 
@@ -103,19 +101,19 @@ module _ (key x : List ℕ) (key_bytes : Bytes key) (bytes : Bytes x) (n at : �
     long = eqb-true (length key) 16 tests.0
 
     -- a unit stands there
-    found : (m : ℕ) × (frame_at kind n y ≡ Unit m) × (unit_outcome kind key o n m y (length out) ≡ Done)
+    found : (m : ℕ) × (frame_at kind n y ≡ Ok (Unit m)) × (unit_outcome kind key o n m y (length out) ≡ Ok tt)
     unfolding outcome_here close_met
     found = frame_done (λ (m : ℕ). unit_outcome kind key o n m y (length out)) (close_seal_tests kind key o n y) (frame_at kind n y) both.1
 
     abbrev m : ℕ
     m = found.0
 
-    checked : checked_at kind key o n y ≡ Unit m
+    checked : checked_at kind key o n y ≡ Ok (Unit m)
     unfolding checked_at unit_outcome
     checked =
         let seal = (then_done (unit_seal_tests kind key o n m y) (room_test (unit_opened kind key o n m y) (length out)) found.2).0 in
         (λ i. with_seal (found.1 i) (λ (k : ℕ). unit_seal_tests kind key o n k y) (close_seal_tests kind key o n y))
-        ∙ ap (λ (a : Answer). frame_of a (Unit m)) seal
+        ∙ ap (λ (a : Answer). frame_of a (Ok (Unit m))) seal
 
     read : UnitRead kind (opening_suite o) key (opening_number o) n m y (unit_opened kind key o n m y)
     read = unit_read kind key o (front_held x tests.1 bytes).1 long key_bytes n y (bytes_drop at x bytes) m checked
@@ -171,7 +169,7 @@ module _ (key x : List ℕ) (key_bytes : Bytes key) (bytes : Bytes x) (n at : �
         }
 
   given : (s t next : ℕ) → placed_told (placed_answer key x n at out) ≡ gives (s ∷ t ∷ next ∷ [])
-      → (placed_outcome kind key x n at (length out) ≡ Done) × (length (source_of (placed_text kind key x n at)) ≡ s)
+      → (placed_outcome kind key x n at (length out) ≡ Ok tt) × (length (source_of (placed_text kind key x n at)) ≡ s)
       × (length (target_of (placed_text kind key x n at)) ≡ t) × (next_of kind at (frame_at kind n y) ≡ next)
   unfolding placed_answer placed_answer_of
   given s t next e =

@@ -1,4 +1,6 @@
 -- What fetch and the ciphertext call give of a book whose walk ends at a known place.
+use Rattle.suites.specs.Answer.{Answer}
+use Rattle.std.specs.Prelude.{Ok, Err}
 use mathlib.Core.Path.{◌≡◌, refl, sym, ap, ◌∙◌}
 use mathlib.Core.Bool.{true}
 use mathlib.Core.List.{List, ◌++◌}
@@ -8,8 +10,6 @@ use borrow.Author.Tests.{eq-eqb, le-leb, lt-leb}
 use lib.Dec.{eqb, leb}
 use lib.ListN.{length, drop}
 use lib.Seq.{drop_at, drop-drop}
-use Rattle.suites.specs.declared.refusal.Answer.{Answer}
-use Rattle.suites.specs.declared.refusal.Answer.TheVariants.{Done, Refused}
 use Rattle.suites.specs.declared.refusal.Refusal.{Refusal}
 use Rattle.suites.specs.declared.refusal.Refusal.TheVariants.{KeyLength, OutputTooShort}
 use Rattle.suites.specs.declared.suite.Suite.{Suite}
@@ -26,10 +26,9 @@ use Rattle.format.proofs.Lengths.{length_opening_fields}
 use Rattle.parser.specs.Frame.{frame_at}
 use Rattle.opening_fields.specs.Opening.{opening_tests, check_tests}
 use Rattle.opening_fields.proofs.Openings.{opening_here, front_here}
-use Rattle.fetch.specs.declared.unit.FetchAnswer.TheVariants.{Fetched, Refused as FetchRefused}
 use Rattle.walk.specs.Walk.{walk_to}
 use Rattle.walk.specs.Clear.{clear_of, clear_unless, placed_clear_of, unit_clear_of}
-use Rattle.fetch.specs.Fetch.{and_then, handed_out, room_test, outcome_here, text_at, fetch_outcome, fetch_text, fetch_report}
+use Rattle.fetch.specs.Fetch.{and_then, handed_out, room_test, outcome_here, text_at, fetch_outcome, fetch_text, fetch_report, fetched_lengths}
 use Rattle.fetch.specs.Fetch.{placed_outcome, fetch_answer_of, fetch_answer, fetch_told, fetch_buffer_of, fetch_buffer}
 use Rattle.fetch.specs.Exact.{HandsOut}
 use Rattle.fetch.proofs.Handed.{source_is, target_is, handed_long, handed_unit}
@@ -53,7 +52,7 @@ module _ (kind : Kind) (suite : Suite) (key : List ℕ) (number : ℕ) (few : nu
   outcome_there long r =
       let h = opening_here suite number (units ++ z) few allowed in
       let front = front_here suite number (units ++ z) in
-      let tests : check_tests (length key) x ≡ Done = unless_passes (eqb (length key) 16) KeyLength (opening_tests x) (eq-eqb (length key) 16 long) h.0 in
+      let tests : check_tests (length key) x ≡ (Ok tt) = unless_passes (eqb (length key) 16) KeyLength (opening_tests x) (eq-eqb (length key) 16 long) h.0 in
       (λ i. and_then (tests i) (outcome_here kind key (front i) (walk_to kind k (h.3 i)).number (drop (walk_to kind k (h.3 i)).at (h.3 i)) r))
       ∙ (λ i. outcome_here kind key (opening_fields suite number) (ends i).number (drop (ends i).at (units ++ z)) r)
       ∙ ap (λ (y : List ℕ). outcome_here kind key (opening_fields suite number) (length us) y r) there
@@ -79,7 +78,7 @@ module _ (kind : Kind) (suite : Suite) (key : List ℕ) (number : ℕ) (few : nu
   placed_there long n r =
       let h = opening_here suite number (units ++ z) few allowed in
       let front = front_here suite number (units ++ z) in
-      let tests : check_tests (length key) x ≡ Done = unless_passes (eqb (length key) 16) KeyLength (opening_tests x) (eq-eqb (length key) 16 long) h.0 in
+      let tests : check_tests (length key) x ≡ (Ok tt) = unless_passes (eqb (length key) 16) KeyLength (opening_tests x) (eq-eqb (length key) 16 long) h.0 in
       λ i. and_then (tests i) (outcome_here kind key (front i) n (there_whole i) r)
 
   pub placed_clear_there : (n : ℕ) → placed_clear_of kind n (16 + length units) x ≡ clear_of kind (16 + length units) z (frame_at kind n z)
@@ -108,8 +107,8 @@ module _ (key x : List ℕ) (k : ℕ) where
   text_of = fetch_text (kind_of (book_kind x)) key x k
 
   -- a refusal leaves the output as it was
-  pub refused_as : (why : Refusal) (out : List ℕ) → outcome_of (length out) ≡ Refused why
-      → (fetch_answer key x k out ≡ FetchRefused why) × (fetch_buffer key x k out ≡ out)
+  pub refused_as : (why : Refusal) (out : List ℕ) → outcome_of (length out) ≡ Err why
+      → (fetch_answer key x k out ≡ Err why) × (fetch_buffer key x k out ≡ out)
   unfolding fetch_answer fetch_answer_of fetch_buffer fetch_buffer_of
   refused_as why out e = (λ i. fetch_report (e i) text_of, λ i. written (e i) (handed_out text_of) out)
 
@@ -122,24 +121,24 @@ module _ (key x : List ℕ) (k : ℕ) where
     long : length (handed_out t) ≡ length u.source + length u.target
     long = handed_long u small refl
 
-    room : (r : ℕ) → length u.source + length u.target ≤ r → outcome_of r ≡ Done
+    room : (r : ℕ) → length u.source + length u.target ≤ r → outcome_of r ≡ Ok tt
     unfolding room_test
     room r h =
         outcome r
-        ∙ unless_passes (leb (length (handed_out t)) r) OutputTooShort Done (le-leb (length (handed_out t)) r (omega (arith, long))) refl
+        ∙ unless_passes (leb (length (handed_out t)) r) OutputTooShort (Ok tt) (le-leb (length (handed_out t)) r (omega (arith, long))) refl
 
-    no_room : (r : ℕ) → r < length u.source + length u.target → outcome_of r ≡ Refused OutputTooShort
+    no_room : (r : ℕ) → r < length u.source + length u.target → outcome_of r ≡ Err OutputTooShort
     unfolding room_test
-    no_room r h = outcome r ∙ ap (λ b. unless b OutputTooShort Done) (lt-leb (length (handed_out t)) r (omega (arith, long)))
+    no_room r h = outcome r ∙ ap (λ b. unless b OutputTooShort (Ok tt)) (lt-leb (length (handed_out t)) r (omega (arith, long)))
 
     pub fetched : (out : List ℕ) → length u.source + length u.target ≤ length out
-        → fetch_answer key x k out ≡ Fetched (length u.source) (length u.target)
+        → fetch_answer key x k out ≡ fetched_lengths (length u.source) (length u.target)
     unfolding fetch_answer fetch_answer_of
     fetched out h =
-        ap (λ (a : Answer). fetch_report a text_of) (room (length out) h) ∙ (λ i. Fetched (length (source_is u small text i)) (length (target_is u small text i)))
+        ap (λ (a : Answer). fetch_report a text_of) (room (length out) h) ∙ (λ i. fetched_lengths (length (source_is u small text i)) (length (target_is u small text i)))
 
     pub too_short : (out : List ℕ) → length out < length u.source + length u.target
-        → (fetch_answer key x k out ≡ FetchRefused OutputTooShort) × (fetch_buffer key x k out ≡ out)
+        → (fetch_answer key x k out ≡ Err OutputTooShort) × (fetch_buffer key x k out ≡ out)
     too_short out h = refused_as OutputTooShort out (no_room (length out) h)
 
     pub hands_out : HandsOut key x k u

@@ -1,4 +1,7 @@
 -- Fetch and the ciphertext call give exactly the units of every book of the layout, and 16 past them.
+use Rattle.suites.specs.Answer.{Answer}
+use Rattle.parser.specs.declared.frame.Frame.TheVariants.{Close, Unit}
+use Rattle.std.specs.Prelude.{Ok, Err}
 use mathlib.Core.Path.{◌≡◌, sym, ap, ◌∙◌}
 use mathlib.Core.List.{List, [], ◌∷◌, ◌++◌}
 use Prim.Native.Nat.{ℕ, ◌+◌, ◌^◌, ◌≤◌, ◌<◌}
@@ -8,7 +11,6 @@ use lib.ListN.{length, take, drop, length-append}
 use lib.Seq.{take_at, drop_at}
 use Rattle.suites.specs.declared.refusal.Refusal.TheVariants.{OutputTooShort, NoSuchUnit}
 use Rattle.suites.specs.declared.suite.Suite.{Suite}
-use Rattle.suites.specs.Told.{told}
 use Rattle.fields.specs.Field.{field}
 use Rattle.fields.specs.Kind.{Kind}
 use Rattle.fields.specs.Unit.{BookUnit, Allowed, unit_text}
@@ -17,14 +19,11 @@ use Rattle.fields.proofs.Texts.{range_told}
 use Rattle.format.specs.Layout.{unit_bytes, close_bytes, units_bytes, book_bytes, Bookable}
 use Rattle.format.specs.Sealings.{opening_fields, unit_sealing, sealed_bytes}
 use Rattle.format.proofs.Lengths.{length_opening_fields, units_bytes_snoc}
-use Rattle.suites.specs.declared.refusal.Answer.{Answer}
-use Rattle.suites.specs.declared.refusal.Answer.TheVariants.{Done, Refused}
 use Rattle.sealing.specs.Seal.{written}
 use Rattle.kinds.specs.declared.Kind.{Kind as BookKind}
 use Rattle.kinds.specs.Kind.{kind_of, book_kind}
 use Rattle.kinds.specs.Lengths.{ciphertext_at, frame_length}
 use Rattle.kinds.proofs.Formed.{formed}
-use Rattle.parser.specs.declared.frame.Frame.TheVariants.{Unit, Close}
 use Rattle.parser.specs.Frame.{most_units, frame_at}
 use Rattle.parser.proofs.Frames.{readable}
 use Rattle.opening_fields.specs.Opening.{after_opening}
@@ -33,14 +32,12 @@ use Rattle.walk.specs.declared.clear.Clear.{Clear}
 use Rattle.walk.specs.declared.ciphertext.Part.{Part}
 use Rattle.walk.specs.Walk.{walk_to}
 use Rattle.walk.specs.Ciphertext.{ciphertext_place, ciphertext_part}
-use Rattle.walk.specs.Clear.{code_of, no_clear, clear_of, placed_clear_of, placed_clear, unit_clear_of, unit_clear}
-use Rattle.walk.proofs.Places.{clear_part}
-use Rattle.fetch.specs.declared.unit.FetchAnswer.{FetchAnswer}
-use Rattle.fetch.specs.declared.unit.FetchAnswer.TheVariants.{Fetched, Refused as FetchRefused}
-use Rattle.fetch.specs.Fetch.{handed_out, room_test, fetch_outcome, fetch_text, placed_outcome, placed_text, placed_report, placed_told, next_of, fetch_told}
+use Rattle.walk.specs.Clear.{ClearAnswer, code_of, clear_of, placed_clear_of, placed_clear, unit_clear_of, unit_clear}
+use Rattle.walk.proofs.Places.{part_said, clear_part}
+use Rattle.fetch.specs.Fetch.{handed_out, room_test, fetch_outcome, fetch_text, placed_outcome, placed_text, placed_report, placed_told, next_of, fetch_told, FetchAnswer, fetched_lengths}
 use Rattle.fetch.specs.Fetch.{fetch_answer_of, fetch_answer, fetch_buffer_of, fetch_buffer, placed_answer_of, placed_answer, placed_buffer_of, placed_buffer}
 use Rattle.fetch.specs.Hands.{with_next}
-use Rattle.fetch.specs.Exact.{HandsOut, NoUnit, ClosesAt, PartOf, place_behind, StandsAt, unit_says, SaysClear, FetchesUnits}
+use Rattle.fetch.specs.Exact.{HandsOut, NoUnit, ClosesAt, PartOf, place_behind, StandsAt, unit_says, clear_told, SaysClear, FetchesUnits}
 use Rattle.fetch.proofs.Cut.{behind, book_cut, front, length_front, length_ciphertext, front_is}
 use Rattle.fetch.proofs.Written.{unit_frame_lem, unit_outcome_lem, unit_text_lem, unit_codes, close_frame, close_outcome_lem}
 use Rattle.fetch.proofs.Reached.{end_place, unit_length_lem, walk_ends, walk_closes}
@@ -110,7 +107,7 @@ module _ (q : BookKind) (suite : Suite) (key : List ℕ) (number : ℕ) where
     unit-fetched = rw (book_cut kind suite key number before u after) (hands_out key x n u small outcome-is text-is)
 
     -- what stands in the clear, and where the next unit stands
-    framed : frame_at kind n z ≡ Unit m
+    framed : frame_at kind n z ≡ Ok (Unit m)
     framed = unit_frame_lem kind suite key number b.number_fits b.key_long b.key_bytes n (formed q) fits few u allowed rest
 
     next-is : 16 + length units + frame_length kind m ≡ place_behind (kind_of q) suite key number (before ++ u ∷ [])
@@ -126,7 +123,6 @@ module _ (q : BookKind) (suite : Suite) (key : List ℕ) (number : ℕ) where
     abbrev said : Clear
     said =
         record {
-          answer = Done;
           at = 16 + length units;
           from = code_of u.from;
           to = code_of u.to;
@@ -134,30 +130,29 @@ module _ (q : BookKind) (suite : Suite) (key : List ℕ) (number : ℕ) where
           next = place_behind (kind_of q) suite key number (before ++ u ∷ []);
         }
 
-    clear-is : clear_of kind (16 + length units) z (frame_at kind n z) ≡ said
+    clear-is : clear_of kind (16 + length units) z (frame_at kind n z) ≡ Ok said
     clear-is =
         let codes = unit_codes kind suite key number b.number_fits b.key_long b.key_bytes n (formed q) fits few u allowed rest in
         ap (clear_of kind (16 + length units) z) framed
-        ∙ (λ i. record {
-          answer = Done;
+        ∙ (λ i. Ok (record {
           at = 16 + length units;
           from = code_of (codes.0 i);
           to = code_of (codes.1 i);
           ciphertext = record { at = 16 + length units + ciphertext_at kind; len = m };
           next = next-is i;
-        })
+        }))
 
     there : drop (16 + length units) x ≡ z
     there = there_whole kind suite key number b.number_fits b.listed_suite before z n ends
 
-    walked-clear : unit_clear n x ≡ said
+    walked-clear : unit_clear n x ≡ Ok said
     unfolding unit_clear
     walked-clear =
         ap (λ (p : BookKind). unit_clear_of (kind_of p) n x) own
         ∙ clear_there kind suite key number b.number_fits b.listed_suite before z n ends
         ∙ clear-is
 
-    placed-clear : placed_clear n (16 + length units) x ≡ said
+    placed-clear : placed_clear n (16 + length units) x ≡ Ok said
     unfolding placed_clear
     placed-clear =
         ap (λ (p : BookKind). placed_clear_of (kind_of p) n (16 + length units) x) own
@@ -166,7 +161,7 @@ module _ (q : BookKind) (suite : Suite) (key : List ℕ) (number : ℕ) where
 
     -- where its ciphertext stands
     part-is : ciphertext_place n x ≡ said.ciphertext
-    part-is = sym (clear_part n x) ∙ ap (λ (c : Clear). c.ciphertext) walked-clear
+    part-is = sym (clear_part n x) ∙ ap part_said walked-clear
 
     unit-part : PartOf (kind_of q) suite key number before u (book_bytes (kind_of q) suite key number (before ++ u ∷ after))
     unfolding ciphertext_part
@@ -188,7 +183,6 @@ module _ (q : BookKind) (suite : Suite) (key : List ℕ) (number : ℕ) where
 
     says : said ≡ unit_says (kind_of q) suite key number before u x
     says = λ i. record {
-      answer = Done;
       at = 16 + length units;
       from = code_of u.from;
       to = code_of u.to;
@@ -200,9 +194,9 @@ module _ (q : BookKind) (suite : Suite) (key : List ℕ) (number : ℕ) where
     unit-clear =
         rw (book_cut kind suite key number before u after)
         (record {
-          done = (ap (λ (c : Clear). told c.answer) walked-clear, ap (λ (c : Clear). told c.answer) placed-clear);
-          walked = walked-clear ∙ says;
-          placed = placed-clear ∙ says;
+          done = (ap clear_told walked-clear, ap clear_told placed-clear);
+          walked = walked-clear ∙ (λ i. Ok (says i));
+          placed = placed-clear ∙ (λ i. Ok (says i));
         })
 
     -- fetch by its place: the walk ends there
@@ -238,8 +232,8 @@ module _ (q : BookKind) (suite : Suite) (key : List ℕ) (number : ℕ) where
         rw (book_cut kind suite key number before u after)
         (record {
           answer = λ out h.
-              placed_is out (Fetched (length u.source) (length u.target)) (fetched key x n u small outcome-is text-is out h);
-          short = λ out h. placed_is out (FetchRefused OutputTooShort) (too_short key x n u small outcome-is text-is out h).0;
+              placed_is out (fetched_lengths (length u.source) (length u.target)) (fetched key x n u small outcome-is text-is out h);
+          short = λ out h. placed_is out (Err OutputTooShort) (too_short key x n u small outcome-is text-is out h).0;
           output = λ out.
               ap (λ (p : BookKind). placed_buffer_of (kind_of p) key x n (16 + length units) out) own
               ∙ sym (λ i. placed_buffer_of kind key x (reached i).number (16 + (reached i).at) out)
@@ -255,7 +249,7 @@ module _ (q : BookKind) (suite : Suite) (key : List ℕ) (number : ℕ) where
     close-fits : length us < 256 ^ (kind_of q).number_bytes
     close-fits = omega (arith, (formed q).numbers_fit, b.few)
 
-    closed : frame_at kind (length us) c ≡ Close
+    closed : frame_at kind (length us) c ≡ Ok Close
     closed = close_frame kind suite key number b.number_fits b.key_long b.key_bytes (length us) (formed q) close-fits
 
     close-ends : walk_to kind k (units_bytes kind suite key number 0 us ++ c) ≡ end_place kind suite key number us
@@ -263,13 +257,13 @@ module _ (q : BookKind) (suite : Suite) (key : List ℕ) (number : ℕ) where
         walk_closes kind suite key number b.number_fits b.key_long b.key_bytes (formed q) us c b.units
         (omega (arith, (readable q).limit, b.few)) (omega (arith, close-fits)) closed k past
 
-    none-outcome : (r : ℕ) → fetch_outcome (kind_of q) key (book_bytes (kind_of q) suite key number us) k r ≡ Refused NoSuchUnit
+    none-outcome : (r : ℕ) → fetch_outcome (kind_of q) key (book_bytes (kind_of q) suite key number us) k r ≡ Err NoSuchUnit
     unfolding book_bytes
     none-outcome r =
         outcome_there kind suite key number b.number_fits b.listed_suite us c k close-ends b.key_long r
         ∙ close_outcome_lem kind suite key number b.number_fits b.key_long b.key_bytes (length us) (formed q) close-fits r
 
-    none-clear : unit_clear_of (kind_of q) k (book_bytes (kind_of q) suite key number us) ≡ no_clear NoSuchUnit
+    none-clear : unit_clear_of (kind_of q) k (book_bytes (kind_of q) suite key number us) ≡ Err NoSuchUnit
     unfolding book_bytes
     none-clear =
         clear_there kind suite key number b.number_fits b.listed_suite us c k close-ends
@@ -278,14 +272,14 @@ module _ (q : BookKind) (suite : Suite) (key : List ℕ) (number : ℕ) where
     -- the close at its place
     close-placed : (r : ℕ)
         → placed_outcome (kind_of q) key (book_bytes (kind_of q) suite key number us) (length us) (place_behind (kind_of q) suite key number us) r
-        ≡ Refused NoSuchUnit
+        ≡ Err NoSuchUnit
     unfolding book_bytes
     close-placed r =
         placed_there kind suite key number b.number_fits b.listed_suite us c k close-ends b.key_long (length us) r
         ∙ close_outcome_lem kind suite key number b.number_fits b.key_long b.key_bytes (length us) (formed q) close-fits r
 
     close-clear : placed_clear_of (kind_of q) (length us) (place_behind (kind_of q) suite key number us) (book_bytes (kind_of q) suite key number us)
-        ≡ no_clear NoSuchUnit
+        ≡ Err NoSuchUnit
     unfolding book_bytes
     close-clear =
         placed_clear_there kind suite key number b.number_fits b.listed_suite us c k close-ends (length us)
@@ -300,16 +294,16 @@ module _ (q : BookKind) (suite : Suite) (key : List ℕ) (number : ℕ) (us : Li
       let x : List ℕ = book_bytes (kind_of q) suite key number us in
       let own = own_kind q suite key number us b in
       let p : BookKind = book_kind x in
-      let clear : unit_clear_of (kind_of p) k x ≡ no_clear NoSuchUnit =
+      let clear : unit_clear_of (kind_of p) k x ≡ Err NoSuchUnit =
       ap (unit_clear_of (kind_of p) k) (sym own.bytes) ∙ none-clear p suite key number us own.bookable k past in
-      let refused : (out : List ℕ) → (fetch_answer key x k out ≡ FetchRefused NoSuchUnit) × (fetch_buffer key x k out ≡ out) = λ out.
+      let refused : (out : List ℕ) → (fetch_answer key x k out ≡ Err NoSuchUnit) × (fetch_buffer key x k out ≡ out) = λ out.
       refused_as key x k NoSuchUnit out
       (ap (λ (y : List ℕ). fetch_outcome (kind_of p) key y k (length out)) (sym own.bytes)
       ∙ none-outcome p suite key number us own.bookable k past (length out)) in
       record {
         refused = λ out. (ap fetch_told (refused out).0, (refused out).1);
-        empty = sym (ap (λ (r : Part). r.len) (clear_part k x)) ∙ ap (λ (r : Clear). r.ciphertext.len) clear;
-        number = ap (λ (c : Clear). told c.answer) clear;
+        empty = sym (ap (λ (r : Part). r.len) (clear_part k x)) ∙ ap (λ (r : ClearAnswer). (part_said r).len) clear;
+        number = ap clear_told clear;
         clear = clear;
       }
 
@@ -324,13 +318,13 @@ module _ (q : BookKind) (suite : Suite) (key : List ℕ) (number : ℕ) (us : Li
   at_own : at ≡ place_behind (kind_of (book_kind y)) suite key number us
   at_own = sym (ap (λ (l : List ℕ). 16 + length l) (own_kind q suite key number us b).units)
 
-  closes-outcome : (r : ℕ) → placed_outcome (kind_of (book_kind y)) key y (length us) at r ≡ Refused NoSuchUnit
+  closes-outcome : (r : ℕ) → placed_outcome (kind_of (book_kind y)) key y (length us) at r ≡ Err NoSuchUnit
   closes-outcome r =
       let own = own_kind q suite key number us b in
       (λ i. placed_outcome (kind_of (book_kind y)) key (sym own.bytes i) (length us) (at_own i) r)
       ∙ close-placed (book_kind y) suite key number us own.bookable (length us) (omega arith) r
 
-  closes-clear : placed_clear_of (kind_of (book_kind y)) (length us) at y ≡ no_clear NoSuchUnit
+  closes-clear : placed_clear_of (kind_of (book_kind y)) (length us) at y ≡ Err NoSuchUnit
   closes-clear =
       let own = own_kind q suite key number us b in
       (λ i. placed_clear_of (kind_of (book_kind y)) (length us) (at_own i) (sym own.bytes i))
@@ -346,7 +340,7 @@ module _ (q : BookKind) (suite : Suite) (key : List ℕ) (number : ℕ) (us : Li
           ap (λ (a : Answer). placed_told (placed_report a text next)) (closes-outcome (length out)),
           ap (λ (a : Answer). written a (handed_out text) out) (closes-outcome (length out)),
         );
-        number = ap (λ (c : Clear). told c.answer) closes-clear;
+        number = ap clear_told closes-clear;
         clear = closes-clear;
       }
 

@@ -1,4 +1,7 @@
 -- What is handed out of a unit's text, and what a call answers and leaves by its outcome.
+use Rattle.suites.specs.Answer.{Answer}
+use Rattle.parser.specs.FrameAnswer.{FrameAnswer}
+use Rattle.std.specs.Prelude.{Ok, Err}
 use mathlib.Core.Path.{◌≡◌, refl, sym, ap, ◌∙◌}
 use mathlib.Core.Bool.{true, false}
 use mathlib.Core.List.{List, [], ◌++◌, append_assoc}
@@ -8,8 +11,6 @@ use borrow.Author.Tests.{le-leb, lt-leb}
 use lib.Dec.{leb}
 use lib.ListN.{length, drop, length-append, length-drop, take-append-drop}
 use lib.Seq.{drop-drop}
-use Rattle.suites.specs.declared.refusal.Answer.{Answer}
-use Rattle.suites.specs.declared.refusal.Answer.TheVariants.{Done, Refused}
 use Rattle.suites.specs.declared.refusal.Refusal.{Refusal}
 use Rattle.suites.specs.declared.refusal.Refusal.TheVariants.{OutputTooShort, SegmentLength, NoSuchUnit}
 use Rattle.limits.specs.Tests.{unless}
@@ -17,14 +18,10 @@ use Rattle.sealing.specs.Seal.{written}
 use Rattle.fields.specs.Kind.{Kind}
 use Rattle.fields.specs.Unit.{BookUnit, unit_text, source_length, source_of, target_of, text_in_range}
 use Rattle.fields.proofs.Texts.{source_of_unit_text, target_of_unit_text, length_source_of, length_target_of}
-use Rattle.parser.specs.declared.frame.Frame.{Frame}
 use Rattle.parser.specs.Frame.{frame_at}
 use Rattle.opening_fields.specs.Opening.{opening_bytes, after_opening, check_tests}
 use Rattle.seals.specs.Seal.{unit_opened}
 use Rattle.walk.specs.declared.Place.{Place}
-use Rattle.fetch.specs.declared.unit.FetchAnswer.{FetchAnswer}
-use Rattle.fetch.specs.declared.unit.FetchAnswer.TheVariants.{Fetched, Refused as FetchRefused}
-use Rattle.fetch.specs.declared.unit.PlacedAnswer.{PlacedAnswer}
 use Rattle.walk.specs.Walk.{walk_to}
 use Rattle.fetch.specs.Fetch.{
   and_then,
@@ -50,13 +47,16 @@ use Rattle.fetch.specs.Fetch.{
   placed_report,
   placed_answer_of,
   placed_buffer_of,
+  FetchAnswer,
+  PlacedAnswer,
+  fetched_lengths,
 }
 use Rattle.fetch.specs.Hands.{Hands, HandsNext, with_next, without_next}
 
 pub hands_same : {a b : Answer} {t u : List ℕ} (out : List ℕ) {r : FetchAnswer} {left : List ℕ} → a ≡ b → t ≡ u → Hands a t out r left → Hands b u out r left
 hands_same out p q h = (h.0 ∙ (λ i. fetch_report (p i) (q i)), h.1 ∙ (λ i. written (p i) (handed_out (q i)) out))
 
-pub hands_refused : {a : Answer} {why : Refusal} (t out : List ℕ) → a ≡ Refused why → Hands a t out (FetchRefused why) out
+pub hands_refused : {a : Answer} {why : Refusal} (t out : List ℕ) → a ≡ Err why → Hands a t out (Err why) out
 hands_refused t out e = hands_same {t = t} out (sym e) refl (refl, refl)
 
 -- the source and the target of a text are what follows its first two bytes
@@ -73,25 +73,25 @@ module _ (t : List ℕ) where
 
   -- a text whose tag agrees: its range, then the room for it
   module _ (out : List ℕ) where
-    pub not_text : text_in_range (length t) (source_length t) ≡ false → text_outcome t (length out) ≡ Refused SegmentLength
+    pub not_text : text_in_range (length t) (source_length t) ≡ false → text_outcome t (length out) ≡ Err SegmentLength
     unfolding text_outcome
     not_text e = ap (λ b. unless b SegmentLength (room_test t (length out))) e
 
     module _ (ok : text_in_range (length t) (source_length t) ≡ true) where
-      in-range : text_outcome t (length out) ≡ unless (leb (length t - 2) (length out)) OutputTooShort Done
+      in-range : text_outcome t (length out) ≡ unless (leb (length t - 2) (length out)) OutputTooShort (Ok tt)
       unfolding text_outcome room_test
-      in-range = λ i. unless (ok i) SegmentLength (unless (leb (length-handed i) (length out)) OutputTooShort Done)
+      in-range = λ i. unless (ok i) SegmentLength (unless (leb (length-handed i) (length out)) OutputTooShort (Ok tt))
 
-      pub no_room : length out < length t - 2 → text_outcome t (length out) ≡ Refused OutputTooShort
-      no_room h = in-range ∙ ap (λ b. unless b OutputTooShort Done) (lt-leb (length t - 2) (length out) h)
+      pub no_room : length out < length t - 2 → text_outcome t (length out) ≡ Err OutputTooShort
+      no_room h = in-range ∙ ap (λ b. unless b OutputTooShort (Ok tt)) (lt-leb (length t - 2) (length out) h)
 
       pub text_hands : length t - 2 ≤ length out
-          → Hands (text_outcome t (length out)) t out (Fetched (source_length t) (length t - 2 - source_length t)) (drop 2 t ++ drop (length (drop 2 t)) out)
+          → Hands (text_outcome t (length out)) t out (fetched_lengths (source_length t) (length t - 2 - source_length t)) (drop 2 t ++ drop (length (drop 2 t)) out)
       text_hands h =
-          let done = in-range ∙ ap (λ b. unless b OutputTooShort Done) (le-leb (length t - 2) (length out) h) in
+          let done = in-range ∙ ap (λ b. unless b OutputTooShort (Ok tt)) (le-leb (length t - 2) (length out) h) in
           let target : length t - 2 - source_length t ≡ length (target_of t) = omega (arith, length_target_of t) in
           hands_same out (sym done) refl
-          (λ i. Fetched (sym (length_source_of t ok) i) (target i), ap (λ r. r ++ drop (length r) out) (sym handed_is))
+          (λ i. fetched_lengths (sym (length_source_of t ok) i) (target i), ap (λ r. r ++ drop (length r) out) (sym handed_is))
 
 -- of a unit's text
 module _ (u : BookUnit) (small : length u.source < 65536) {t : List ℕ} (text : t ≡ unit_text u.source u.target) where
@@ -104,22 +104,22 @@ module _ (u : BookUnit) (small : length u.source < 65536) {t : List ℕ} (text :
   pub handed_long : length (handed_out t) ≡ length u.source + length u.target
   handed_long = (λ i. length (source_is i ++ target_is i)) ∙ length-append u.source u.target
 
-  pub handed_unit : (out : List ℕ) → written Done (handed_out t) out ≡ u.source ++ (u.target ++ drop (length u.source + length u.target) out)
+  pub handed_unit : (out : List ℕ) → written (Ok tt) (handed_out t) out ≡ u.source ++ (u.target ++ drop (length u.source + length u.target) out)
   handed_unit out =
       (λ i. (source_is i ++ target_is i) ++ drop (handed_long i) out)
       ∙ append_assoc u.source u.target (drop (length u.source + length u.target) out)
 
 -- where the tag is refused: the refusal, and the output stays
-pub tag_answer : (tag rest : Answer) (t : List ℕ) (why : Refusal) → tag ≡ Refused why → FetchRefused why ≡ fetch_report (and_then tag rest) t
+pub tag_answer : (tag rest : Answer) (t : List ℕ) (why : Refusal) → tag ≡ Err why → Err why ≡ fetch_report (and_then tag rest) t
 tag_answer tag rest t why e = ap (λ (a : Answer). fetch_report (and_then a rest) t) (sym e)
 
-pub tag_output : (tag rest : Answer) (given out : List ℕ) (why : Refusal) → tag ≡ Refused why → out ≡ written (and_then tag rest) given out
+pub tag_output : (tag rest : Answer) (given out : List ℕ) (why : Refusal) → tag ≡ Err why → out ≡ written (and_then tag rest) given out
 tag_output tag rest given out why e = ap (λ (a : Answer). written (and_then a rest) given out) (sym e)
 
 -- where there is no unit the output stays
-pub none_left : (a : Answer) (out : List ℕ) → out ≡ written (and_then a (Refused NoSuchUnit)) (handed_out []) out
-none_left Done out = refl
-none_left (Refused why) out = refl
+pub none_left : (a : Answer) (out : List ℕ) → out ≡ written (and_then a (Err NoSuchUnit)) (handed_out []) out
+none_left (Ok tt) out = refl
+none_left (Err why) out = refl
 
 -- with the place of the next unit
 pub next_same : {a b : Answer} {t u : List ℕ} {p q : ℕ} (out : List ℕ) {r : PlacedAnswer} {left : List ℕ} → a ≡ b → t ≡ u → p ≡ q
@@ -127,8 +127,8 @@ pub next_same : {a b : Answer} {t u : List ℕ} {p q : ℕ} (out : List ℕ) {r 
 next_same out e f g h = (h.0 ∙ (λ i. placed_report (e i) (f i) (g i)), h.1 ∙ (λ i. written (e i) (handed_out (f i)) out))
 
 report_next : (a : Answer) (t : List ℕ) (next : ℕ) → with_next (fetch_report a t) next ≡ placed_report a t next
-report_next Done t next = refl
-report_next (Refused why) t next = refl
+report_next (Ok tt) t next = refl
+report_next (Err why) t next = refl
 
 pub hands_next : (a : Answer) (t out : List ℕ) {r : FetchAnswer} {left : List ℕ} {q : PlacedAnswer} (p next : ℕ) → Hands a t out r left
     → q ≡ with_next r p → p ≡ next → HandsNext a t next out q left
@@ -136,7 +136,7 @@ hands_next a t out p next h e f = (e ∙ (λ i. with_next (h.0 i) (f i)) ∙ rep
 
 -- by the frame where the walk ends
 module _ (kind : Kind) (key o : List ℕ) (n at : ℕ) (s out : List ℕ) {r : PlacedAnswer} {left : List ℕ} where
-  pub frame_hands : (f : Frame) → frame_at kind n s ≡ f
+  pub frame_hands : (f : FrameAnswer) → frame_at kind n s ≡ f
       → HandsNext
       (frame_outcome f (λ (m : ℕ). unit_outcome kind key o n m s (length out)) (close_met kind key o n s))
       (frame_text f (λ (m : ℕ). unit_opened kind key o n m s)) (next_of kind at f) out r left
@@ -161,8 +161,8 @@ module _ (kind : Kind) (key s : List ℕ) (n at : ℕ) (out : List ℕ) {r : Pla
 
 -- without that place
 report_without : (a : Answer) (t : List ℕ) (next : ℕ) → without_next (placed_report a t next) ≡ fetch_report a t
-report_without Done t next = refl
-report_without (Refused why) t next = refl
+report_without (Ok tt) t next = refl
+report_without (Err why) t next = refl
 
 pub hands_without : (a : Answer) (t out : List ℕ) {r : PlacedAnswer} {left : List ℕ} {q : FetchAnswer} (next : ℕ) → HandsNext a t next out r left
     → q ≡ without_next r → Hands a t out q left

@@ -1,4 +1,6 @@
 -- The walk over units that were written: the place where it ends.
+use Rattle.parser.specs.declared.frame.Frame.TheVariants.{Close, Unit}
+use Rattle.std.specs.Prelude.{Ok}
 use mathlib.Core.Path.{◌≡◌, refl, sym, ap, ◌∙◌}
 use mathlib.Core.List.{List, [], ◌∷◌, ◌++◌, append_assoc}
 use Prim.Native.Nat.{ℕ, zero, suc, ◌+◌, ◌-◌, ◌^◌, ◌≤◌, ◌<◌}
@@ -15,7 +17,6 @@ use Rattle.fields.proofs.Details.{length_details_of}
 use Rattle.fields.proofs.Texts.{length_unit_text}
 use Rattle.format.specs.Layout.{unit_bytes, units_bytes}
 use Rattle.format.proofs.Lengths.{length_unit_bytes}
-use Rattle.parser.specs.declared.frame.Frame.TheVariants.{Unit, Close}
 use Rattle.parser.specs.Frame.{most_units, frame_at}
 use Rattle.walk.specs.declared.Place.{Place}
 use Rattle.kinds.specs.Lengths.{frame_length}
@@ -24,10 +25,10 @@ use Rattle.walk.proofs.Places.{walk_step}
 use Rattle.fetch.proofs.Written.{unit_frame_lem}
 
 -- at a close the walk stays, however many steps are left
-walk_stays : (kind : Kind) (k : ℕ) (p : Place) (s : List ℕ) → frame_at kind p.number (drop p.at s) ≡ Close → walk_on kind k p s ≡ p
+walk_stays : (kind : Kind) (k : ℕ) (p : Place) (s : List ℕ) → frame_at kind p.number (drop p.at s) ≡ Ok Close → walk_on kind k p s ≡ p
 unfolding walk_on
 walk_stays kind zero p s e = refl
-walk_stays kind (suc k) p s e = walk_step kind s k p Close e
+walk_stays kind (suc k) p s e = walk_step kind s k p (Ok Close) e
 
 module _ (kind : Kind) (suite : Suite) (key : List ℕ) (number : ℕ) where
   -- the place behind units that stand at a place
@@ -78,7 +79,7 @@ module _ (kind : Kind) (suite : Suite) (key : List ℕ) (number : ℕ) where
         let there : drop q.at s ≡ z =
         sym (drop-drop (frame_length kind m) p.at s) ∙ ap (drop (frame_length kind m)) here ∙ drop_at b z (frame_length kind m) (unit_length_lem n u a) in
         ap (λ (j : ℕ). walk_on kind j p s) steps
-        ∙ walk_step kind s (length us + k) p (Unit m)
+        ∙ walk_step kind s (length us + k) p (Ok (Unit m))
         (ap (frame_at kind n) here ∙ unit_frame_lem kind suite key number fit long key_bytes n wf (omega arith) (omega arith) u a z)
         ∙ walk-past k q us rest s each (omega arith) (omega arith) there
         ∙ ap (λ (r : Place). walk_on kind k r s) (past_more p u us a)
@@ -100,7 +101,7 @@ module _ (kind : Kind) (suite : Suite) (key : List ℕ) (number : ℕ) where
       walk_ends = ap (λ (k : ℕ). walk_to kind k (units_bytes kind suite key number 0 us ++ rest)) (sym (add-zero (length us))) ∙ walk-on 0
 
       -- a close stands there, and the walk was to go further
-      pub walk_closes : frame_at kind (length us) rest ≡ Close → (k : ℕ) → length us ≤ k
+      pub walk_closes : frame_at kind (length us) rest ≡ Ok Close → (k : ℕ) → length us ≤ k
           → walk_to kind k (units_bytes kind suite key number 0 us ++ rest) ≡ end_place us
       walk_closes e k h =
           let units = units_bytes kind suite key number 0 us in

@@ -1,18 +1,18 @@
 -- A unit and a close that were written: what fetch finds where they stand.
+use Rattle.suites.specs.Answer.{Answer}
+use Rattle.parser.specs.FrameAnswer.{FrameAnswer}
+use Rattle.parser.specs.declared.frame.Frame.TheVariants.{Close, Unit}
+use Rattle.std.specs.Prelude.{Ok, Err}
 use mathlib.Core.Path.{◌≡◌, sym, ap, ◌∙◌}
 use mathlib.Core.List.{List, ◌++◌}
 use Prim.Native.Nat.{ℕ, ◌^◌, ◌<◌}
 use lib.ListN.{length}
 use Rattle.bits.specs.Bytes.{Bytes}
-use Rattle.suites.specs.declared.refusal.Answer.{Answer}
-use Rattle.suites.specs.declared.refusal.Answer.TheVariants.{Done, Refused}
 use Rattle.suites.specs.declared.refusal.Refusal.TheVariants.{NoSuchUnit}
 use Rattle.suites.specs.declared.suite.Suite.{Suite}
 use Rattle.fields.specs.Kind.{Kind, WellFormed}
 use Rattle.fields.specs.Unit.{BookUnit, Allowed, unit_text}
 use Rattle.format.specs.Layout.{unit_bytes, close_bytes}
-use Rattle.parser.specs.declared.frame.Frame.{Frame}
-use Rattle.parser.specs.declared.frame.Frame.TheVariants.{Unit, Close}
 use Rattle.format.specs.Sealings.{opening_fields}
 use Rattle.parser.specs.Frame.{most_units, frame_from, frame_to, frame_at}
 use Rattle.opening_fields.specs.Opening.{opening_number, opening_suite}
@@ -26,12 +26,12 @@ use Rattle.fetch.specs.Fetch.{and_then, room_test, unit_outcome, close_met, fram
 
 -- by the frame that stands there
 module _ (kind : Kind) (key o : List ℕ) (n : ℕ) (s : List ℕ) where
-  outcome-by : (f : Frame) (r : ℕ) → frame_at kind n s ≡ f
+  outcome-by : (f : FrameAnswer) (r : ℕ) → frame_at kind n s ≡ f
       → outcome_here kind key o n s r ≡ frame_outcome f (λ (m : ℕ). unit_outcome kind key o n m s r) (close_met kind key o n s)
   unfolding outcome_here
   outcome-by f r e = λ i. frame_outcome (e i) (λ (m : ℕ). unit_outcome kind key o n m s r) (close_met kind key o n s)
 
-  text-by : (f : Frame) → frame_at kind n s ≡ f → text_at kind key o n s ≡ frame_text f (λ (m : ℕ). unit_opened kind key o n m s)
+  text-by : (f : FrameAnswer) → frame_at kind n s ≡ f → text_at kind key o n s ≡ frame_text f (λ (m : ℕ). unit_opened kind key o n m s)
   unfolding text_at
   text-by f e = λ i. frame_text (e i) (λ (m : ℕ). unit_opened kind key o n m s)
 
@@ -60,7 +60,7 @@ module _ (kind : Kind) (suite : Suite) (key : List ℕ) (number : ℕ) (fit : nu
         ≡ unit_bytes kind (opening_suite (opening_fields suite number)) key (opening_number (opening_fields suite number)) n u ++ rest
     same = λ i. unit_bytes kind (sym says.0 i) key (sym says.1 i) n u ++ rest
 
-    unit-both : (frame_at kind n s ≡ Unit (length t)) × (unit_seal_tests kind key o n (length t) s ≡ Done)
+    unit-both : (frame_at kind n s ≡ Ok (Unit (length t))) × (unit_seal_tests kind key o n (length t) s ≡ Ok tt)
     unfolding checked_at
     unit-both =
         unit_sealed (λ (m : ℕ). unit_seal_tests kind key o n m s) (close_seal_tests kind key o n s) (frame_at kind n s) (length t)
@@ -69,15 +69,15 @@ module _ (kind : Kind) (suite : Suite) (key : List ℕ) (number : ℕ) (fit : nu
     opened : unit_opened kind key o n (length t) s ≡ t
     opened = ap (unit_opened kind key o n (length t)) same ∙ unit_opened_lem kind key o held long key_bytes n wf fits few u a rest
 
-    pub unit_frame_lem : frame_at kind n s ≡ Unit (length t)
+    pub unit_frame_lem : frame_at kind n s ≡ Ok (Unit (length t))
     unit_frame_lem = unit-both.0
 
     pub unit_outcome_lem : (r : ℕ) → outcome_here kind key o n s r ≡ room_test t r
     unfolding unit_outcome
-    unit_outcome_lem r = outcome-by kind key o n s (Unit (length t)) r unit_frame_lem ∙ (λ i. and_then (unit-both.1 i) (room_test (opened i) r))
+    unit_outcome_lem r = outcome-by kind key o n s (Ok (Unit (length t))) r unit_frame_lem ∙ (λ i. and_then (unit-both.1 i) (room_test (opened i) r))
 
     pub unit_text_lem : text_at kind key o n s ≡ t
-    unit_text_lem = text-by kind key o n s (Unit (length t)) unit_frame_lem ∙ opened
+    unit_text_lem = text-by kind key o n s (Ok (Unit (length t))) unit_frame_lem ∙ opened
 
     -- the codes that stand there
     pub unit_codes : (frame_from kind s ≡ u.from) × (frame_to kind s ≡ u.to)
@@ -88,15 +88,15 @@ module _ (kind : Kind) (suite : Suite) (key : List ℕ) (number : ℕ) (fit : nu
   abbrev c : List ℕ
   c = close_bytes kind suite key number n
 
-  close-both : (frame_at kind n c ≡ Close) × (close_seal_tests kind key o n c ≡ Done)
+  close-both : (frame_at kind n c ≡ Ok Close) × (close_seal_tests kind key o n c ≡ Ok tt)
   unfolding checked_at
   close-both =
       close_sealed_lem (λ (m : ℕ). unit_seal_tests kind key o n m c) (close_seal_tests kind key o n c) (frame_at kind n c)
       ((λ i. checked_at kind key o n (close_bytes kind (sym says.0 i) key (sym says.1 i) n)) ∙ close_written kind key o held long key_bytes n wf fits)
 
-  pub close_frame : frame_at kind n c ≡ Close
+  pub close_frame : frame_at kind n c ≡ Ok Close
   close_frame = close-both.0
 
-  pub close_outcome_lem : (r : ℕ) → outcome_here kind key o n c r ≡ Refused NoSuchUnit
+  pub close_outcome_lem : (r : ℕ) → outcome_here kind key o n c r ≡ Err NoSuchUnit
   unfolding close_met
-  close_outcome_lem r = outcome-by kind key o n c Close r close_frame ∙ ap (λ (a : Answer). and_then a (Refused NoSuchUnit)) close-both.1
+  close_outcome_lem r = outcome-by kind key o n c (Ok Close) r close_frame ∙ ap (λ (a : Answer). and_then a (Err NoSuchUnit)) close-both.1

@@ -1,10 +1,10 @@
 -- What fetch, the ciphertext call and the calls in the clear give of a book of the layout, as a statement; proofs/Exact proves it for every kind
 -- that can be read. A unit of the book is unit k where k units stand before it.
-use Rattle.std.specs.Prelude.{◌≡◌, List, [], ◌∷◌, ◌++◌, ℕ, ◌+◌, ◌≤◌, ◌<◌, length, take, drop}
-use Rattle.suites.specs.declared.refusal.Answer.TheVariants.{Done}
+use Rattle.std.specs.Prelude.{◌≡◌, List, [], ◌∷◌, ◌++◌, ℕ, ◌+◌, ◌≤◌, ◌<◌, length, take, drop, Ok, Err}
 use Rattle.suites.specs.declared.refusal.Refusal.TheVariants.{NoSuchUnit}
 use Rattle.suites.specs.declared.suite.Suite.{Suite}
-use Rattle.suites.specs.Told.{gives, refuses, told}
+use Rattle.suites.specs.Refusal.{number as number_of}
+use Rattle.suites.specs.Told.{Told, gives, refuses}
 use Rattle.fields.specs.Field.{field_head}
 use Rattle.fields.specs.Kind.{Kind}
 use Rattle.fields.specs.Unit.{BookUnit, details_of, unit_text}
@@ -14,7 +14,7 @@ use Rattle.format.specs.Layout.{units_bytes, book_bytes, Bookable}
 use Rattle.format.specs.Sealings.{opening_fields, unit_header, unit_sealing, sealed_bytes}
 use Rattle.walk.specs.declared.clear.Clear.{Clear}
 use Rattle.walk.specs.Ciphertext.{ciphertext_place, ciphertext_part}
-use Rattle.walk.specs.Clear.{code_of, no_clear, placed_clear, unit_clear}
+use Rattle.walk.specs.Clear.{ClearAnswer, code_of, placed_clear, unit_clear}
 use Rattle.fetch.specs.Fetch.{fetch_answer, fetch_told, fetch_buffer, placed_answer, placed_told, placed_buffer}
 
 -- fetch of k from the string x hands out the unit u: its source and target at the output's start, and their lengths
@@ -27,18 +27,23 @@ pub record HandsOut (key x : List ℕ) (k : ℕ) (u : BookUnit) : Type 0 where
   pub short : (out : List ℕ) → length out < length u.source + length u.target
       → (fetch_told (fetch_answer key x k out) ≡ refuses 7) × (fetch_buffer key x k out ≡ out)
 
+-- what is said in the clear, by number: nothing but that it is said, or the refusal
+abbrev pub clear_told : ClearAnswer → Told
+clear_told (Ok clear) = gives []
+clear_told (Err why) = refuses (number_of why)
+
 -- "no unit k: 16", and the output stays; the ciphertext part is empty, and nothing is said in the clear
 pub record NoUnit (key x : List ℕ) (k : ℕ) : Type 0 where
   pub refused : (out : List ℕ) → (fetch_told (fetch_answer key x k out) ≡ refuses 16) × (fetch_buffer key x k out ≡ out)
   pub empty : (ciphertext_place k x).len ≡ 0
-  pub number : told (unit_clear k x).answer ≡ refuses 16
-  pub clear : unit_clear k x ≡ no_clear NoSuchUnit
+  pub number : clear_told (unit_clear k x) ≡ refuses 16
+  pub clear : unit_clear k x ≡ Err NoSuchUnit
 
 -- the same at the close's place, where n units stand before it: who goes from unit to unit ends there
 pub record ClosesAt (key x : List ℕ) (n at : ℕ) : Type 0 where
   pub refused : (out : List ℕ) → (placed_told (placed_answer key x n at out) ≡ refuses 16) × (placed_buffer key x n at out ≡ out)
-  pub number : told (placed_clear n at x).answer ≡ refuses 16
-  pub clear : placed_clear n at x ≡ no_clear NoSuchUnit
+  pub number : clear_told (placed_clear n at x) ≡ refuses 16
+  pub clear : placed_clear n at x ≡ Err NoSuchUnit
 
 -- the ciphertext part is the value of field 11 of the unit u: the ciphertext of its sealing, and it stands behind the units before it, the
 -- unit's header and the head of that field
@@ -67,7 +72,6 @@ pub record StandsAt (kind : Kind) (suite : Suite) (key : List ℕ) (number : ℕ
 abbrev pub unit_says : Kind → Suite → List ℕ → ℕ → List BookUnit → BookUnit → List ℕ → Clear
 unit_says kind suite key number before u x =
     record {
-      answer = Done;
       at = place_behind kind suite key number before;
       from = code_of u.from;
       to = code_of u.to;
@@ -77,10 +81,10 @@ unit_says kind suite key number before u x =
 
 -- by a walk, and at its place, without a refusal
 pub record SaysClear (kind : Kind) (suite : Suite) (key : List ℕ) (number : ℕ) (before : List BookUnit) (u : BookUnit) (x : List ℕ) : Type 0 where
-  pub done : (told (unit_clear (length before) x).answer ≡ gives [])
-      × (told (placed_clear (length before) (place_behind kind suite key number before) x).answer ≡ gives [])
-  pub walked : unit_clear (length before) x ≡ unit_says kind suite key number before u x
-  pub placed : placed_clear (length before) (place_behind kind suite key number before) x ≡ unit_says kind suite key number before u x
+  pub done : (clear_told (unit_clear (length before) x) ≡ gives [])
+      × (clear_told (placed_clear (length before) (place_behind kind suite key number before) x) ≡ gives [])
+  pub walked : unit_clear (length before) x ≡ Ok (unit_says kind suite key number before u x)
+  pub placed : placed_clear (length before) (place_behind kind suite key number before) x ≡ Ok (unit_says kind suite key number before u x)
 
 pub record FetchesUnits (k : BookKind) : Type 0 where
   -- "opens unit k, writes source and target to the output, returns s and t"

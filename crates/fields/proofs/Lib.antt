@@ -4,5 +4,6 @@ pub mod Fields
 pub mod Texts
 pub mod Languages
 pub mod Details
+pub mod HighFirst
 pub mod Pair
 pub mod Values

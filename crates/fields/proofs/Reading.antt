@@ -1,14 +1,14 @@
 -- Numbers and fields read from their bytes.
 use mathlib.Core.Path.{◌≡◌, sym, ap, ◌∙◌}
-use mathlib.Core.Bool.{false, ◌&&◌, and-true}
+use mathlib.Core.Bool.{false, ◌&&◌}
 use mathlib.Core.List.{List}
-use Prim.Native.Nat.{ℕ, ◌+◌, ◌*◌, ◌^◌, ◌≤◌, ◌<◌}
+use Prim.Native.Nat.{ℕ, ◌+◌, ◌*◌, ◌^◌, ◌≤◌, ◌<◌, min}
 use native.Mathlib.Nat.{pow-le-pow_right}
-use native.Mathlib.Decide.{ℕ_discrete}
+use native.Mathlib.Decide.{dec_lt}
 use native.Mathlib.Numerals.{add-one}
 use native.Mathlib.Omega.{arith}
-use borrow.Author.Tests.{ltb-false, lt-ltb, le-leb, lt-leb}
-use lib.Dec.{eqb, ltb}
+use borrow.Author.Tests.{le-leb, lt-leb}
+use lib.Dec.{eqb}
 use lib.ListN.{length, get_or, take, length-take}
 use lib.Seq.{take_all, take-suc}
 use Rattle.bits.specs.Bytes.{Bytes, number_of}
@@ -24,18 +24,24 @@ module _ (s : List ℕ) (i : ℕ) where
       let up : 256 ^ length (take i s) ≤ 256 ^ k = pow-le-pow_right (omega arith) (rw length-take (omega arith)) in
       omega (arith, number_of_lt (take i s) (bytes_take i s h))
 
+  -- with one byte more it fits 64 bits
+  pub number_fits : Bytes s → i < 8 → number_of (take i s) * 256 + get_or s i 0 < 256 ^ 8
+  number_fits h l = omega (arith, number_below h 7 (omega arith), h.fit i)
+
   pub number_next : i < length s → number_of (take i s) * 256 + get_or s i 0 ≡ number_of (take (i + 1) s)
   number_next h = sym (ap (λ (n : ℕ). number_of (take n s)) (add-one i) ∙ ap number_of (take-suc s i 0 h) ∙ number_of_snoc (take i s) (get_or s i 0))
 
-  -- a loop to the end of s, or to k if that is less
-  pub taken_all : (k : ℕ) → i ≤ k → i ≤ length s → (ltb i (length s) && ltb i k) ≡ false → take i s ≡ take k s
-  taken_all k h l e = at (ℕ_discrete i k)
-    where
-      at : Dec (i ≡ k) → take i s ≡ take k s
-      at (yes q) = ap (λ (n : ℕ). take n s) q
-      at (no d) =
-          let end : length s ≤ i = ltb-false i (length s) (rw (lt-ltb i k (omega arith), and-true) at e) in
-          take_all i s end ∙ sym (take_all k s (omega arith))
+-- the first k bytes, or all if there are fewer
+pub taken_min : (k : ℕ) (s : List ℕ) → take (min (length s) k) s ≡ take k s
+taken_min k s = at (dec_lt (length s) k)
+  where
+    at : Dec (length s < k) → take (min (length s) k) s ≡ take k s
+    at (yes l) =
+        let less : min (length s) k ≡ length s = omega arith in
+        ap (λ (n : ℕ). take n s) less ∙ take_all (length s) s (omega arith) ∙ sym (take_all k s (omega arith))
+    at (no m) =
+        let less : min (length s) k ≡ k = omega arith in
+        ap (λ (n : ℕ). take n s) less
 
 -- a field's length, of its bytes
 pub length_is : (s : List ℕ) → 3 ≤ length s → get_or s 1 0 * 256 + get_or s 2 0 ≡ field_length s

@@ -6,14 +6,15 @@ ghost use Rattle.fields.specs.Field.{field_head, has_field};
 pub fn head(tag: u8, n: usize) -> [u8; 3]
     ensures { result ≡ field_head tag n }
 {
-    [tag, (n / 256 % 256) as u8, (n / 1 % 256) as u8]
+    let b = n.to_be_bytes();
+    [tag, b[6], b[7]]
 }
 
 // Two bytes as a number, the higher first.
 pub fn pair(high: u8, low: u8) -> usize
     ensures { result ≡ high * 256 + low }
 {
-    (high as usize) * 256 + (low as usize)
+    usize::from(u16::from_be_bytes([high, low]))
 }
 
 // Whether a field with this tag and a value of n bytes stands at the start of s.

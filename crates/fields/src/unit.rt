@@ -6,7 +6,7 @@ ghost use Rattle.fields.specs.Unit.{in_range};
 fn is_letter(b: u8) -> bool
     ensures { result ≡ letter b }
 {
-    (0x61 <= b) & (b <= 0x7A)
+    b.is_ascii_lowercase()
 }
 
 // Whether a language code is of letters.
@@ -23,7 +23,7 @@ pub fn is_pair(from: [u8; 2], to: [u8; 2]) -> bool
     is_code(from) & is_code(to)
 }
 
-// Whether source and target may have s and t bytes.
+// Whether source and target may have s and t bytes: no branch, since the lengths are of a text.
 pub fn in_range(s: usize, t: usize) -> bool
     ensures { result ≡ in_range s t }
 {

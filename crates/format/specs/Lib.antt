@@ -1,3 +1,3 @@
 pub mod Sealings
 pub mod Layout
-pub mod Along
+pub mod Room

@@ -1,59 +1,46 @@
 -- The header sealed along, sealing in place where nothing is refused, and the fields of the sealed bytes.
+use Rattle.suites.specs.Answer.{Answer}
+use Rattle.std.specs.Prelude.{Ok}
 use mathlib.Core.Path.{◌≡◌, sym, ap, ◌∙◌}
 use mathlib.Core.List.{List, ◌++◌, append_assoc}
 use Prim.Native.Nat.{ℕ, ◌+◌, ◌-◌, ◌^◌, ◌≤◌}
 use native.Mathlib.Omega.{arith}
 use lib.ListN.{length, take, drop, length-append, length-drop, take-append-drop}
-use lib.Seq.{take-add, take_at, drop_at, take-append-le, drop-append-le, length-take-le}
+use lib.Seq.{take_at, drop_at, take-append-le, drop-append-le, length-take-le}
 use Rattle.calls.specs.Calls.{calls}
-use Rattle.suites.specs.declared.refusal.Answer.{Answer}
-use Rattle.suites.specs.declared.refusal.Answer.TheVariants.{Done}
 use Rattle.suites.specs.declared.suite.Suite.{Suite}
 use Rattle.limits.specs.Limits.{header_limit, text_limit}
 use Rattle.limits.proofs.Passed.{seal_passes}
-use Rattle.sealing.specs.declared.seal.SealAnswer.{SealAnswer}
-use Rattle.sealing.specs.Seal.{sealed, written, seal_report, in_place_outcome, in_place_answer, in_place_buffer}
+use Rattle.sealing.specs.Seal.{sealed, written, made_sealed, seal_report, in_place_outcome, in_place_answer, in_place_buffer}
 use Rattle.fields.specs.Field.{field_head, field}
-use Rattle.format.specs.declared.layout.Along.{Along}
-use Rattle.format.specs.Along.{AlongOf}
+use Rattle.bits.proofs.Lists.{part_rest}
 use Rattle.format.specs.Layout.{sealed_fields}
 use Rattle.format.specs.Sealings.{Sealing, opening_fields, sealed_bytes, sealing_calls}
 use Rattle.sealing.proofs.Sealed.{length_sealed}
 use Rattle.format.proofs.Lengths.{length_opening_fields}
-use Rattle.frames.specs.Parts.{call_count, Within, tag_apart, Put, PutSealed, sealing_of}
+use Rattle.frames.specs.Parts.{Within, tag_apart, Put, PutSealed, sealing_of}
 use Rattle.format.proofs.Behind.{copied, later, behind}
 
 -- the header of a unit or a close, n bytes, behind the opening fields
-module _ (suite : Suite) (number n : ℕ) (head : List ℕ) (r : Along) {m : ℕ}
-    (a : AlongOf (opening_fields suite number ++ head) m r) (long : r.len ≡ 16 + n) where
-  length-along : length (take r.len r.bytes) ≡ r.len
-  length-along = length-take-le r.len r.bytes a.fits
-
+module _ (suite : Suite) (number n : ℕ) (head r : List ℕ) (is : r ≡ opening_fields suite number ++ head) (long : length r ≡ 16 + n) where
   length-head : length head ≡ n
-  length-head =
-      omega (arith, length-along, ap length a.is, length-append (opening_fields suite number) head, length_opening_fields suite number)
+  length-head = omega (arith, ap length is, length-append (opening_fields suite number) head, length_opening_fields suite number)
 
   -- copied to the start of an output
-  head-put : (out x : List ℕ) → let h = take (r.len - 16) (drop 16 r.bytes) in x ≡ h ++ drop (length h) out → x ≡ head ++ drop n out
+  head-put : (out x : List ℕ) → let h = take (length r - 16) (drop 16 r) in x ≡ h ++ drop (length h) out → x ≡ head ++ drop n out
   head-put out x e =
-      let k : ℕ = r.len - 16 in
-      let all : 16 + k ≡ r.len = omega arith in
-      let front : length (take 16 r.bytes) ≡ 16 = length-take-le 16 r.bytes (omega (arith, a.fits)) in
-      let is : take k (drop 16 r.bytes) ≡ head =
-      sym (drop_at (take 16 r.bytes) (take k (drop 16 r.bytes)) 16 front)
-      ∙ ap (drop 16) (sym (take-add 16 k r.bytes) ∙ ap (λ (i : ℕ). take i r.bytes) all ∙ a.is)
-      ∙ drop_at (opening_fields suite number) head 16 (length_opening_fields suite number) in
-      copied n head (take k (drop 16 r.bytes)) out x length-head is e
+      let behind-fields : drop 16 r ≡ head = ap (drop 16) is ∙ drop_at (opening_fields suite number) head 16 (length_opening_fields suite number) in
+      copied n head (take (length r - 16) (drop 16 r)) out x length-head (part_rest 16 r ∙ behind-fields) e
 
   -- and k bytes behind it, which f makes of the sealing's sealed bytes
   pub framed : {nonce y : List ℕ} {c : ℕ} (key : List ℕ) (s : Sealing) → opening_fields suite number ++ head ≡ s.header → nonce ≡ s.nonce
-      → (out x : List ℕ) → let h = take (r.len - 16) (drop 16 r.bytes) in x ≡ h ++ drop (length h) out
+      → (out x : List ℕ) → let h = take (length r - 16) (drop 16 r) in x ≡ h ++ drop (length h) out
       → (f : List ℕ → List ℕ) (k end : ℕ) → n + k ≡ end
-      → let q = take (length x - n) (drop n x) in PutSealed suite key (sealing_of nonce (take r.len r.bytes) s.text) f k q y c
+      → let q = take (length x - n) (drop n x) in PutSealed suite key (sealing_of nonce r s.text) f k q y c
       → Put s (head ++ f (sealed_bytes suite key s)) end out (take n x ++ (y ++ drop (length x - n) (drop n x))) c
   framed {nonce} {y} key s eh en out x e f k end h p =
-      let made : Sealing = sealing_of nonce (take r.len r.bytes) s.text in
-      let same : made ≡ s = λ j. record { nonce = en j; header = (a.is ∙ eh) j; text = s.text } in
+      let made : Sealing = sealing_of nonce r s.text in
+      let same : made ≡ s = λ j. record { nonce = en j; header = (is ∙ eh) j; text = s.text } in
       record {
         calls = p.calls ∙ ap (λ (z : Sealing). length (sealing_calls z)) same;
         is =
@@ -79,7 +66,7 @@ module _ (suite : Suite) (key nonce header : List ℕ) (m : ℕ) (out : List ℕ
   length_all =
       length_sealed suite key nonce header (take m out) (omega (arith, s.nonce_long)) m (length-take-le m out (omega arith))
 
-  done : in_place_outcome suite.cipher suite.steps key nonce header m out ≡ Done
+  done : in_place_outcome suite.cipher suite.steps key nonce header m out ≡ Ok tt
   unfolding in_place_outcome
   done =
       seal_passes suite.cipher suite.steps (length key) (length nonce) (length header) m (length out)
@@ -96,10 +83,9 @@ module _ (suite : Suite) (key nonce header : List ℕ) (m : ℕ) (out : List ℕ
         room = room;
       })
 
-  pub calls_made : (r : SealAnswer) → r ≡ in_place_answer suite.cipher suite.steps key nonce header m out
-      → call_count r ≡ length (calls nonce header (take m out))
+  pub answered : in_place_answer suite.cipher suite.steps key nonce header m out ≡ made_sealed (m + 16) (length (calls nonce header (take m out)))
   unfolding in_place_answer
-  calls_made r e = ap call_count e ∙ ap (λ (a : Answer). call_count (seal_report a (m + 16) (length (calls nonce header (take m out))))) done
+  answered = ap (λ (a : Answer). seal_report a (m + 16) (length (calls nonce header (take m out)))) done
 
   pub sealed_there : (x : List ℕ) → x ≡ in_place_buffer suite.cipher suite.steps key nonce header m out → x ≡ all ++ drop (m + 16) out
   unfolding in_place_buffer

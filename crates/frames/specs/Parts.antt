@@ -4,13 +4,6 @@ use Rattle.suites.specs.declared.suite.Suite.{Suite}
 use Rattle.suites.specs.Suite.{listed}
 use Rattle.fields.specs.Field.{field}
 use Rattle.format.specs.Sealings.{Sealing, sealed_bytes, sealing_calls}
-use Rattle.sealing.specs.declared.seal.SealAnswer.{SealAnswer}
-use Rattle.sealing.specs.declared.seal.SealAnswer.TheVariants.{Sealed, Refused}
-
--- the call count in an answer of `seal`
-abbrev pub call_count : SealAnswer → ℕ
-call_count (Sealed len count) = count
-call_count (Refused why) = 0
 
 -- sealed bytes whose ciphertext has m: the ciphertext, and the tag as field 12
 unfoldable pub tag_apart : ℕ → List ℕ → List ℕ

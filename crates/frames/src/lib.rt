@@ -9,23 +9,14 @@ ghost use Rattle.kinds.specs.Lengths.{unit_length, close_length};
 ghost use Rattle.format.specs.Layout.{sealed_fields, unit_bytes, close_bytes};
 ghost use Rattle.format.specs.Sealings.{unit_sealing, close_sealing};
 ghost use Rattle.fields.specs.Unit.{unit_of, unit_text, in_range};
-ghost use Rattle.frames.specs.Parts.{call_count, Within, tag_apart, Put, PutSealed, sealing_of};
+ghost use Rattle.frames.specs.Parts.{Within, tag_apart, Put, PutSealed, sealing_of};
 
 use kinds::Kind;
-use sealing::seal::SealAnswer;
 use suites::suite::Suite;
+use writer_state::Writer;
 
-// The number of cipher calls that a sealing has made.
-fn calls_of(answer: SealAnswer) -> u64
-    ensures { result ≡ call_count answer }
-{
-    match answer {
-        SealAnswer::Refused(why) => 0,
-        SealAnswer::Sealed(len, count) => count as u64,
-    }
-}
-
-// The text of a unit.
+// The text of a unit. Source and target stand apart here and in what calls this, as in the writer's add: a struct of the two is no plainer,
+// since each clause would take it apart.
 fn put_text(source: &[u8], target: &[u8], out: &mut [u8])
     requires { 2 + (length source.now + length target.now) ≤ length out.old }
     ensures { out.new ≡ unit_text source.now target.now
@@ -48,7 +39,8 @@ fn put_tag(out: &mut [u8])
     blockwise::put_at(out, 3, tag);
 }
 
-// The sealed bytes of the first m bytes, in their place, with the tag as field 12; the number of cipher calls.
+// The sealed bytes of the first m bytes, in their place, with the tag as field 12; the number of cipher calls. What is asked here leaves
+// nothing to refuse.
 fn seal_here(
     suite: Suite,
     key: [u8; 16],
@@ -67,7 +59,7 @@ fn seal_here(
 {
     let answer = sealing::seal::seal_in_place(suite, &key, nonce, header, m, out);
     put_tag(&mut out[m..]);
-    calls_of(answer)
+    answer.unwrap().calls as u64
 }
 
 // A unit's text, sealed, as fields 11 and 12; the number of cipher calls.
@@ -95,67 +87,56 @@ fn put_sealed(
     seal_here(suite, key, nonce, header, m, &mut out[3..])
 }
 
-// Unit n; the number of cipher calls.
+// The writer's next unit; the number of cipher calls.
 pub fn put_unit(
     kind: Kind,
-    suite: Suite,
-    key: [u8; 16],
-    number: u64,
-    n: u64,
+    w: Writer,
     from: [u8; 2],
     to: [u8; 2],
     source: &[u8],
     target: &[u8],
     out: &mut [u8],
 ) -> u64
-    requires { (listed suite.cipher suite.steps ≡ true)
+    requires { (listed w.suite.cipher w.suite.steps ≡ true)
         × (in_range (length source.now) (length target.now) ≡ true)
         × (unit_length (kind_of kind) (length source.now) (length target.now) ≤ length out.old) }
     ensures { Put
-        (unit_sealing (kind_of kind) suite number n (unit_of from to source.now target.now))
-        (unit_bytes (kind_of kind) suite key number n (unit_of from to source.now target.now))
+        (unit_sealing (kind_of kind) w.suite w.number w.count (unit_of from to source.now target.now))
+        (unit_bytes (kind_of kind) w.suite w.key w.number w.count
+        (unit_of from to source.now target.now))
         (unit_length (kind_of kind) (length source.now) (length target.now))
         out.old out.new result }
 {
-    let nonce = format::layout::nonce(number, n);
-    let along = format::layout::unit_along(kind, suite, number, n, from, to);
-    let bytes = along.bytes;
-    let len = along.len;
+    let nonce = format::layout::nonce(w.number, w.count);
+    let along = format::layout::unit_along(kind, w.suite, w.number, w.count, from, to);
+    let header = along.as_slice();
     let h = kind.header_len();
-    blockwise::copy(&bytes[16..len], out);
+    blockwise::copy(&header[16..], out);
     put_sealed(
-        suite,
-        key,
+        w.suite,
+        w.key,
         &nonce,
-        &bytes[..len],
+        header,
         source,
         target,
         &mut out[h..],
     )
 }
 
-// The close after n units; the number of cipher calls.
-pub fn put_close(
-    kind: Kind,
-    suite: Suite,
-    key: [u8; 16],
-    number: u64,
-    n: u64,
-    out: &mut [u8],
-) -> u64
-    requires { (listed suite.cipher suite.steps ≡ true)
+// The close after the writer's units; the number of cipher calls.
+pub fn put_close(kind: Kind, w: Writer, out: &mut [u8]) -> u64
+    requires { (listed w.suite.cipher w.suite.steps ≡ true)
         × (close_length (kind_of kind) ≤ length out.old) }
     ensures { Put
-        (close_sealing (kind_of kind) suite number n)
-        (close_bytes (kind_of kind) suite key number n)
+        (close_sealing (kind_of kind) w.suite w.number w.count)
+        (close_bytes (kind_of kind) w.suite w.key w.number w.count)
         (close_length (kind_of kind))
         out.old out.new result }
 {
-    let last = format::layout::nonce(number, n);
-    let along = format::layout::close_along(kind, suite, number, n);
-    let bytes = along.bytes;
-    let len = along.len;
+    let last = format::layout::nonce(w.number, w.count);
+    let along = format::layout::close_along(kind, w.suite, w.number, w.count);
+    let header = along.as_slice();
     let h = kind.close_header_len();
-    blockwise::copy(&bytes[16..len], out);
-    seal_here(suite, key, &last, &bytes[..len], 0, &mut out[h..])
+    blockwise::copy(&header[16..], out);
+    seal_here(w.suite, w.key, &last, header, 0, &mut out[h..])
 }

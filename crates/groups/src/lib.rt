@@ -1,95 +1,58 @@
 // Groups of sixty-four blocks, each block under its own tweak, one way or the other. A function with a precondition serves our own crates.
 #![tactic(auto)]
 
+mod way;
+
 ghost use Rattle.std.specs.Prelude.{◌≡◌, ◌+◌, ◌*◌, ◌≤◌, length};
 ghost use Rattle.blockwise.specs.Blocks.{each_of};
-ghost use Rattle.state.specs.Block.{rows};
 ghost use Rattle.turns.specs.Turns.{ciphered};
-ghost use Rattle.plane_tweakeys.specs.Shared.{Shared};
-ghost use Rattle.groups.specs.Group.{few_at};
+ghost use Rattle.groups.specs.Group.{few_at, through};
 
 use rounds::Cipher;
+use way::Way;
 
-// The 64 blocks at a place, under the tweaks at that place. The key stands in `shared`; its bytes are for the contract.
-fn group<'a>(
-    ahead: bool,
-    k: Cipher,
-    n: usize,
-    key: [u8; 16],
-    shared: &'a [[u64; 16]; 8],
-    tweaks: &[u8],
-    blocks: &mut [u8],
-    at: usize,
-)
-    requires { (n ≤ 14)
-        × Shared (rows key) shared.now
-        × (at + 1024 ≤ length tweaks.now)
-        × (at + 1024 ≤ length blocks.old) }
-    ensures { blocks.new ≡ few_at (ciphered ahead k n key) 64 at tweaks.now blocks.old }
+// The 64 blocks at a place, under the tweaks at that place.
+fn group(way: &Way, tweaks: &[u8], blocks: &mut [u8], at: usize)
+    requires tweaks { at + 1024 ≤ length tweaks.now }
+    requires blocks { at + 1024 ≤ length blocks.old }
+    ensures { blocks.new ≡ few_at (through way.now) 64 at tweaks.now blocks.old }
 {
     let mut w = [[0u64; 16]; 8];
-    let mut t = [[0u64; 16]; 8];
-    let mut u = [[0u64; 16]; 8];
-    let mut v = [[0u64; 16]; 8];
     planes::loading::load(tweaks, at, &mut w);
-    plane_tweakeys::tweakeys::tweakey(k, 0, shared, &w, &mut t);
-    plane_tweakeys::tweakeys::tweakey(k, 1, shared, &w, &mut u);
-    plane_tweakeys::tweakeys::tweakey(k, 2, shared, &w, &mut v);
+    let mut tweakeys = [[[0u64; 16]; 8]; 3];
+    for (s, t) in tweakeys.iter_mut().enumerate() {
+        plane_tweakeys::tweakeys::tweakey(way.cipher, s, way.shared, &w, t);
+    }
     let mut x = [[0u64; 16]; 8];
     planes::loading::load(blocks, at, &mut x);
-    plane_steps::turns(ahead, k, n, &mut x, &t, &u, &v);
+    plane_steps::turns(way.ahead, way.cipher, way.steps, &mut x, &tweakeys);
     planes::storing::store(&mut x, blocks, at);
 }
 
 // The first g groups.
-fn groups<'a>(
-    ahead: bool,
-    k: Cipher,
-    n: usize,
-    key: [u8; 16],
-    shared: &'a [[u64; 16]; 8],
-    tweaks: &[u8],
-    blocks: &mut [u8],
-    g: usize,
-)
-    requires { (n ≤ 14)
-        × Shared (rows key) shared.now
-        × (1024 * g ≤ length tweaks.now)
-        × (1024 * g ≤ length blocks.old) }
-    ensures { blocks.new ≡ each_of (ciphered ahead k n key) (64 * g) tweaks.now blocks.old }
+fn groups(way: &Way, tweaks: &[u8], blocks: &mut [u8], g: usize)
+    requires tweaks { 1024 * g ≤ length tweaks.now }
+    requires blocks { 1024 * g ≤ length blocks.old }
+    ensures { blocks.new ≡ each_of (through way.now) (64 * g) tweaks.now blocks.old }
 {
-    let mut i: usize = 0;
-    while i < g {
-        group(ahead, k, n, key, shared, tweaks, blocks, 1024 * i);
-        i += 1;
+    for i in 0..g {
+        group(way, tweaks, blocks, 1024 * i);
     }
 }
 
 // At most 64 blocks at a place: a group that is filled up, and of which only these are put back.
-fn filled_up<'a>(
-    ahead: bool,
-    k: Cipher,
-    n: usize,
-    key: [u8; 16],
-    shared: &'a [[u64; 16]; 8],
-    tweaks: &[u8],
-    blocks: &mut [u8],
-    at: usize,
-    r: usize,
-)
-    requires { (n ≤ 14)
-        × Shared (rows key) shared.now
-        × (r ≤ 64)
-        × (at + 16 * r ≤ length tweaks.now)
-        × (at + 16 * r ≤ length blocks.old) }
-    ensures { blocks.new ≡ few_at (ciphered ahead k n key) r at tweaks.now blocks.old }
+fn filled_up(way: &Way, tweaks: &[u8], blocks: &mut [u8], at: usize, r: usize)
+    requires few { r ≤ 64 }
+    requires tweaks { at + 16 * r ≤ length tweaks.now }
+    requires blocks { at + 16 * r ≤ length blocks.old }
+    ensures { blocks.new ≡ few_at (through way.now) r at tweaks.now blocks.old }
 {
     let mut t = [0u8; 1024];
     let mut b = [0u8; 1024];
     let end = at + 16 * r;
     blockwise::copy(&tweaks[at..end], &mut t);
     blockwise::copy(&blocks[at..end], &mut b);
-    group(ahead, k, n, key, shared, &t, &mut b, 0);
+    group(way, &t, &mut b, 0);
     blockwise::copy(&b[..16 * r], &mut blocks[at..]);
 }
 
@@ -108,20 +71,18 @@ pub fn first(
         × (16 * w ≤ length blocks.old) }
     ensures { blocks.new ≡ each_of (ciphered ahead k n key) w tweaks.now blocks.old }
 {
-    let shared = plane_tweakeys::sharing::share(state::rows_of(state::load(key)));
+    let mut shared = [[0; 16]; 8];
+    plane_tweakeys::sharing::share(state::rows_of(state::load(key)), &mut shared);
+    let way = Way {
+        ahead,
+        cipher: k,
+        steps: n,
+        key,
+        shared: &shared,
+    };
     let g = w / 64;
-    groups(ahead, k, n, key, &shared, tweaks, blocks, g);
+    groups(&way, tweaks, blocks, g);
     if 64 * g < w {
-        filled_up(
-            ahead,
-            k,
-            n,
-            key,
-            &shared,
-            tweaks,
-            blocks,
-            1024 * g,
-            w - 64 * g,
-        );
+        filled_up(&way, tweaks, blocks, 1024 * g, w - 64 * g);
     }
 }

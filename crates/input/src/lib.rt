@@ -8,22 +8,16 @@ ghost use Rattle.std.specs.Io.KnownBytes.{Consumes, IsAtEnd};
 use std::io;
 use std::io::Read;
 
-// 4,096 zeros.
-pub fn buffer() -> [u8; 4096]
-    ensures { 4096 ≡ length result }
+// Room for N bytes. Its caller's proof has the length and not the zeros: to count them would be slow.
+pub fn buffer<const N: usize>() -> [u8; N]
+    ensures { N ≡ length result }
 {
-    [0; 4096]
-}
-
-// 65,536 zeros.
-pub fn large_buffer() -> [u8; 65536]
-    ensures { 65536 ≡ length result }
-{
-    [0; 65536]
+    [0; N]
 }
 
 // Reads until buf is full, the input ends or a read fails, and returns how many bytes it put at the start of buf, which are the next ones
-// that the reader has, and whether a read failed. Where none did and buf is not full, the input is at its end.
+// that the reader has, and whether a read failed. Where none did and buf is not full, the input is at its end. A while
+// loop: how much a read gives is the reader's to say.
 pub fn read_full<R: Read>(reader: &mut R, buf: &mut [u8]) -> (usize, io::Result<()>)
     ensures within { IsPrefixLen result.0 buf.new }
     ensures bytes { Consumes (R.remaining reader.old) (R.remaining reader.new) (take result.0 buf.new) }

@@ -7,10 +7,33 @@ ghost use Rattle.kinds.specs.Lengths.{Small, header_bytes, header_length, close_
 ghost use Rattle.kinds.specs.Lengths.{frame_length, unit_length, close_length, unit_calls, close_calls};
 
 // A kind has the name of the tag of its unit headers.
-#[derive(Clone, Copy)]
+#[derive(Clone, Copy, Debug, PartialEq, Eq, Hash)]
 pub enum Kind {
     Tag10,
     Tag14,
+}
+
+// The numbers in which kinds differ.
+#[derive(Clone, Copy)]
+struct Numbers {
+    header_tag: u8,
+    close_tag: u8,
+    number_bytes: usize,
+    code_bytes: usize,
+    unit_limit: u64,
+}
+
+impl From<u8> for Kind {
+    ghost from_gives = { λ b kind. kind ≡ kind_by b };
+
+    // The kind that the byte behind a book's opening fields says. A byte that is no tag of any kind says none, and any will do.
+    #[tactic(auto, unfolding(crate::specs::Kind::kind_by))]
+    fn from(b: u8) -> Kind {
+        match b {
+            0x10 | 0x20 => Kind::Tag10,
+            _ => Kind::Tag14,
+        }
+    }
 }
 
 impl Kind {
@@ -21,75 +44,72 @@ impl Kind {
         Kind::Tag14
     }
 
-    // The kind that the byte behind a book's opening fields says. A byte that is no tag of any kind says none, and any will do.
-    fn by(b: u8) -> Kind
-        ensures { result ≡ kind_by b }
-    {
-        if (b == 0x10) | (b == 0x20) {
-            Kind::Tag10
-        } else {
-            Kind::Tag14
-        }
-    }
-
     // The kind of a book.
+    #[tactic(auto, unfolding(crate::specs::Kind::book_kind))]
     pub fn of_book(book: &[u8]) -> Kind
         ensures { result ≡ book_kind book.now }
     {
-        if 16 < book.len() {
-            return Kind::by(book[16]);
+        Kind::from(book.get(16).copied().unwrap_or(0))
+    }
+
+    fn numbers(self) -> Numbers
+        ensures { (result.header_tag ≡ (kind_of self).header_tag)
+            × (result.close_tag ≡ (kind_of self).close_tag)
+            × Small 4 (kind_of self).number_bytes result.number_bytes
+            × Small 4 (kind_of self).code_bytes result.code_bytes
+            × Small 16777215 (kind_of self).unit_limit result.unit_limit }
+    {
+        match self {
+            Kind::Tag10 => Numbers {
+                header_tag: 0x10,
+                close_tag: 0x20,
+                number_bytes: 2,
+                code_bytes: 2,
+                unit_limit: 65535,
+            },
+            Kind::Tag14 => Numbers {
+                header_tag: 0x14,
+                close_tag: 0x21,
+                number_bytes: 4,
+                code_bytes: 2,
+                unit_limit: 16777215,
+            },
         }
-        Kind::by(0)
     }
 
     // The tag of a unit's header.
     pub fn header_tag(self) -> u8
         ensures { result ≡ (kind_of self).header_tag }
     {
-        match self {
-            Kind::Tag10 => 0x10,
-            Kind::Tag14 => 0x14,
-        }
+        self.numbers().header_tag
     }
 
     // The tag of a close.
     pub fn close_tag(self) -> u8
         ensures { result ≡ (kind_of self).close_tag }
     {
-        match self {
-            Kind::Tag10 => 0x20,
-            Kind::Tag14 => 0x21,
-        }
+        self.numbers().close_tag
     }
 
     // How many bytes a unit's number has, and the count in a close.
     pub fn number_bytes(self) -> usize
         ensures { Small 4 (kind_of self).number_bytes result }
     {
-        match self {
-            Kind::Tag10 => 2,
-            Kind::Tag14 => 4,
-        }
+        self.numbers().number_bytes
     }
 
     // How many bytes a language code has.
     pub fn code_bytes(self) -> usize
         ensures { Small 4 (kind_of self).code_bytes result }
     {
-        match self {
-            Kind::Tag10 => 2,
-            Kind::Tag14 => 2,
-        }
+        self.numbers().code_bytes
     }
 
     // How many units a book may have.
     pub fn unit_limit(self) -> u64
         ensures { Small 16777215 (kind_of self).unit_limit result }
     {
-        match self {
-            Kind::Tag10 => 65535,
-            Kind::Tag14 => 16777215,
-        }
+        self.numbers().unit_limit
     }
 
     // How many bytes the value of a unit's header has.

@@ -3,9 +3,8 @@
 
 ghost use Rattle.std.specs.Prelude.{◌≤◌, length};
 
-use sealing::seal::SealAnswer;
 use std::io;
-use suites::refusal::Answer;
+use suites::refusal::Refusal;
 use suites::suite::Suite;
 use writer::Written;
 
@@ -23,16 +22,16 @@ fn run_limit(rt: &impl Print, name: &[u8], header: &[u8], text: &[u8]) -> io::Re
     report::number(rt, (header.len() + text.len()) as u64)?;
     report::text(rt, b" ")?;
     match sealing::seal::seal(suite, &[0u8; 16], &[0u8; 15], header, text, &mut out) {
-        SealAnswer::Sealed(_, _) => report::text(rt, b"passes")?,
-        SealAnswer::Refused(why) => report::refusal(rt, why)?,
+        Ok(_) => report::text(rt, b"passes")?,
+        Err(why) => report::refusal(rt, why)?,
     }
     report::text(rt, b"\n")
 }
 
-fn write_answer(rt: &impl Print, answer: Answer) -> io::Result<()> {
+fn write_answer(rt: &impl Print, answer: Result<(), Refusal>) -> io::Result<()> {
     match answer {
-        Answer::Done => report::text(rt, b"passes\n"),
-        Answer::Refused(why) => {
+        Ok(()) => report::text(rt, b"passes\n"),
+        Err(why) => {
             report::refusal(rt, why)?;
             report::text(rt, b"\n")
         }
@@ -48,9 +47,7 @@ fn run_start(rt: &impl Print, buf: &mut [u8]) -> io::Result<()> {
     report::text(rt, b"start ")?;
     report::number(rt, buf.len() as u64)?;
     report::text(rt, b" ")?;
-    let started = Written::start(suite, &[0u8; 16], 7, buf);
-    let answer = started.answer;
-    write_answer(rt, answer)
+    write_answer(rt, Written::start(suite, &[0u8; 16], 7, buf).answer)
 }
 
 // Whether a unit with this source can be added to a new book.
@@ -65,8 +62,7 @@ fn run_source(rt: &impl Print, source: &[u8]) -> io::Result<()> {
     report::text(rt, b" ")?;
     let started = Written::start(suite, &[0u8; 16], 7, &mut buf);
     let added = started.add(*b"en", *b"de", source, b"", &mut buf);
-    let answer = added.answer;
-    write_answer(rt, answer)
+    write_answer(rt, added.answer)
 }
 
 fn run_limits(rt: &impl Print) -> io::Result<()> {

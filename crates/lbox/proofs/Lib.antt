@@ -1,3 +1,4 @@
 pub mod Matrix
 pub mod Inverses
 pub mod Columns
+pub mod Made

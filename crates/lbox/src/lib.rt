@@ -3,37 +3,27 @@
 
 pub mod matrices;
 
-ghost use Rattle.std.specs.Prelude.{◌≡◌, ◌*◌, ◌%◌, ◌<◌};
+ghost use Rattle.std.specs.Prelude.{◌≡◌, ◌*◌, ◌%◌};
 ghost use Rattle.lbox.specs.Lbox;
 ghost use Rattle.lbox.specs.Tables.{joined, looked_up};
 
-fn wide(x: u8) -> u16
-    ensures { (result ≡ x)
-        × (result < 256) }
-{
-    x as u16
-}
-
 // Two byte tables as one of words: the entries of the first are the high halves.
-pub fn join<'a>(high: &'a [u8; 256], low: &'a [u8; 256]) -> [u16; 256]
+pub fn join(high: &[u8; 256], low: &[u8; 256]) -> [u16; 256]
     ensures { result ≡ joined high.now low.now }
 {
-    let mut t = [0u16; 256];
-    let mut i: usize = 0;
-    while i < 256 {
-        t[i] = wide(high[i]) * 256 + wide(low[i]);
-        i += 1;
+    let mut words = [0; 256];
+    for (i, w) in words.iter_mut().enumerate() {
+        *w = u16::from_be_bytes([high[i], low[i]]);
     }
-    t
+    words
 }
 
 // A row through joined tables: its low byte through the one, its high byte through the other.
-pub fn look_up<'a>(x: u16, low: &'a [u16; 256], high: &'a [u16; 256]) -> u16
+pub fn look_up(x: u16, low: &[u16; 256], high: &[u16; 256]) -> u16
     ensures { result ≡ looked_up low.now high.now x }
 {
-    let b1 = (x % 256) as usize;
-    let b0 = (x / 256 % 256) as usize;
-    low[b1] ^ high[b0]
+    let [b0, b1] = x.to_be_bytes();
+    low[usize::from(b1)] ^ high[usize::from(b0)]
 }
 
 // A matrix entry where the bit is set, else 0.
@@ -44,13 +34,11 @@ fn entry(b: u8, bit: u16) -> u8
 }
 
 // A matrix row times a word.
-fn dot(row: [u8; 16], x: u16) -> u8
-    ensures { result ≡ Lbox.dot row x }
+fn dot(row: &[u8; 16], x: u16) -> u8
+    ensures { result ≡ Lbox.dot row.now x }
 {
-    let mut sum: u8 = 0;
-    let mut j: usize = 16;
-    while 0 < j {
-        j -= 1;
+    let mut sum = 0;
+    for j in (0..16).rev() {
         sum = entry(row[j], x >> j) ^ sum;
     }
     sum
@@ -60,12 +48,9 @@ fn dot(row: [u8; 16], x: u16) -> u8
 pub fn times(m: [[u8; 16]; 16], x: u16) -> u16
     ensures { result ≡ Lbox.times m x }
 {
-    let mut product: u16 = 0;
-    let mut i: usize = 16;
-    while 0 < i {
-        i -= 1;
-        let row = m[i];
-        product = product * 2 + wide(dot(row, x) % 2);
+    let mut product = 0;
+    for i in (0..16).rev() {
+        product = product * 2 + u16::from(dot(&m[i], x) % 2);
     }
     product
 }

@@ -62,18 +62,22 @@ const ISCREAM: [[u8; 16]; 16] = [
     [1, 1, 1, 1, 0, 0, 0, 0, 1, 1, 1, 0, 0, 0, 0, 0],
 ];
 
+// A function for each matrix: a constant has no contract, and an array of arrays by value is the scope's form.
+#[tactic(auto, unfolding(crate::specs::Lbox::scream))]
 pub fn scream() -> [[u8; 16]; 16]
     ensures { result ≡ Lbox.scream }
 {
     SCREAM
 }
 
+#[tactic(auto, unfolding(crate::specs::Lbox::scream_inverse))]
 pub fn scream_inverse() -> [[u8; 16]; 16]
     ensures { result ≡ Lbox.scream_inverse }
 {
     SCREAM_INVERSE
 }
 
+#[tactic(auto, unfolding(crate::specs::Lbox::iscream))]
 pub fn iscream() -> [[u8; 16]; 16]
     ensures { result ≡ Lbox.iscream }
 {

@@ -1,3 +1,4 @@
 pub mod Bounds
+pub mod Order
 pub mod Passed
 pub mod Told

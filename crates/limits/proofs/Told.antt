@@ -1,11 +1,11 @@
 -- The tests by the scope's numbers.
+use Rattle.suites.specs.Answer.{Answer}
+use Rattle.std.specs.Prelude.{Ok}
 use mathlib.Core.Path.{◌≡◌, refl}
 use mathlib.Core.Bool.{Bool, true, false, not, ◌&&◌}
 use mathlib.Core.List.{[]}
 use Prim.Native.Nat.{ℕ, ◌+◌, ◌-◌}
 use lib.Dec.{eqb, leb}
-use Rattle.suites.specs.declared.refusal.Answer.{Answer}
-use Rattle.suites.specs.declared.refusal.Answer.TheVariants.{Done}
 use Rattle.suites.specs.declared.refusal.Refusal.{Refusal}
 use Rattle.suites.specs.declared.refusal.Refusal.TheVariants.{
   SuiteNotListed,
@@ -48,9 +48,9 @@ module _ (cipher steps k n a : ℕ) where
   seal_told_lem m o =
       let text = leb m (text_limit n) in
       let room = leb (m + 16) o in
-      inputs-told (unless text TextTooLong (unless room OutputTooShort Done)) (due (not text) 6 (due (not room) 7 (gives [])))
-      (told_unless text TextTooLong (unless room OutputTooShort Done) (due (not room) 7 (gives []))
-      (told_unless room OutputTooShort Done (gives []) refl))
+      inputs-told (unless text TextTooLong (unless room OutputTooShort (Ok tt))) (due (not text) 6 (due (not room) 7 (gives [])))
+      (told_unless text TextTooLong (unless room OutputTooShort (Ok tt)) (due (not room) 7 (gives []))
+      (told_unless room OutputTooShort (Ok tt) (gives []) refl))
 
   pub open_told : (s o : ℕ) → told (open_tests cipher steps k n a s o) ≡ open_due cipher steps k n a s o
   unfolding open_tests sealed_tests open_due
@@ -58,9 +58,9 @@ module _ (cipher steps k n a : ℕ) where
       let long = leb 16 s in
       let text = leb (s - 16) (text_limit n) in
       let room = leb (s - 16) o in
-      let last = unless room OutputTooShort Done in
+      let last = unless room OutputTooShort (Ok tt) in
       let after-long = unless text TextTooLong last in
       inputs-told (unless long SealedTooShort after-long) (due (not long) 5 (due (not text) 6 (due (not room) 7 (gives []))))
       (told_unless long SealedTooShort after-long (due (not text) 6 (due (not room) 7 (gives [])))
       (told_unless text TextTooLong last (due (not room) 7 (gives []))
-      (told_unless room OutputTooShort Done (gives []) refl)))
+      (told_unless room OutputTooShort (Ok tt) (gives []) refl)))

@@ -1,19 +1,23 @@
 -- The rules and the S-boxes by their places.
 use mathlib.Core.Path.{◌≡◌, refl, sym, ap, ◌∙◌}
-use mathlib.Core.Bool.{true}
-use mathlib.Core.List.{List}
+use mathlib.Core.List.{List, [], ◌∷◌}
 use Prim.Native.Nat.{ℕ, zero, suc, ◌+◌, ◌-◌, ◌/◌, ◌%◌, ◌≤◌, ◌<◌}
 use native.Mathlib.Omega.{arith}
 use borrow.Author.Tests.{lt-ltb}
 use lib.Dec.{lit<}
 use lib.ListN.{length, get_or}
+use Rattle.bits.specs.Table.{tab}
 use Rattle.sbox.specs.Sbox
 use Rattle.sbox.proofs.Inverses.{column_layer}
 use Rattle.sbox.proofs.Columns.{alone_column}
+use Rattle.printed.specs.declared.Half.{Half}
+use Rattle.printed.specs.declared.Half.TheVariants.{Low, High}
 use Rattle.printed.specs.Printed.{tables, table}
-use Rattle.printed.specs.Rule.{product, rules, rule}
-use Rattle.printed.proofs.Right.{table_long, entry_byte}
+use Rattle.printed.specs.Rule.{Rule, made, product, rules, rule}
+use Rattle.printed.proofs.Right.{table_long, entry_byte, made_table}
 use Rattle.made_tables.specs.Boxes.{boxes_at, sbox_place, matrix_of, sbox_of, from_at, to_at}
+use Rattle.std.specs.Prelude.{Some}
+use Rattle.std.proofs.lemmas.List.{get_or_default}
 use Rattle.made_tables.specs.Makes.{Makes}
 use Rattle.made_tables.specs.declared.Boxes.{Boxes}
 use Rattle.made_tables.specs.declared.Boxes.TheVariants.{Scream, ScreamInverse, IScream}
@@ -33,6 +37,26 @@ lbox_rule (suc (suc (suc (suc (suc (suc (suc (suc (suc zero))))))))) h = refl
 lbox_rule (suc (suc (suc (suc (suc (suc (suc (suc (suc (suc zero)))))))))) h = refl
 lbox_rule (suc (suc (suc (suc (suc (suc (suc (suc (suc (suc (suc zero))))))))))) h = refl
 lbox_rule (suc (suc (suc (suc (suc (suc (suc (suc (suc (suc (suc (suc p)))))))))))) h = absurd (omega arith)
+
+-- the code's constants at their places
+abbrev group : List Boxes
+group = Scream ∷ ScreamInverse ∷ IScream ∷ []
+
+abbrev halves : List (Half × Half)
+halves = (Low, High) ∷ (Low, Low) ∷ (High, High) ∷ (High, Low) ∷ []
+
+group_is : (g : ℕ) → g < 3 → get_or group g Scream ≡ boxes_at g
+group_is zero h = refl
+group_is (suc zero) h = refl
+group_is (suc (suc zero)) h = refl
+group_is (suc (suc (suc g))) h = absurd (omega arith)
+
+halves_is : (t : ℕ) → t < 4 → get_or halves t (Low, High) ≡ (from_at t, to_at t)
+halves_is zero h = refl
+halves_is (suc zero) h = refl
+halves_is (suc (suc zero)) h = refl
+halves_is (suc (suc (suc zero))) h = refl
+halves_is (suc (suc (suc (suc t)))) h = absurd (omega arith)
 
 -- the S-boxes are the tables behind those of the L-boxes
 behind : (g : ℕ) → g < 3 → sbox_of (boxes_at g) ≡ table (12 + g)
@@ -72,8 +96,26 @@ through x b h =
     let e = alone_column b h in
     column_layer (sbox_of x) (Sbox.alone b) 0 (lit< tt) (rw e (sbox_byte x b h)) ∙ ap (λ (c : ℕ). get_or (sbox_of x) c 0) e
 
--- what the maker leaves
-pub makes_one : (p : ℕ) (before : List ℕ) {after : List ℕ} → p < 15 → after ≡ table p → Makes p before after true
-makes_one p before h e =
-    let y = lt-ltb p 15 h in
-    record { says = sym y; bytes = rw y e }
+-- what the maker answers
+makes_one : (p : ℕ) {made : List ℕ} → p < 15 → made ≡ table p → Makes p (Some made)
+makes_one p h e = let y = lt-ltb p 15 h in record { says = rw y (ap Some e) }
+
+pub lbox_makes : (p : ℕ) → p < 12 → {r : List ℕ} {x : Boxes} {from to : Half} → r ≡ tab 256 (made (product (matrix_of x) from to))
+    → x ≡ get_or group (p / 4) Scream → from ≡ (get_or halves (p % 4) (Low, High)).0 → to ≡ (get_or halves (p % 4) (Low, High)).1
+    → Makes p (Some r)
+lbox_makes p h e ex ef et =
+    let l : p < 15 = omega arith in
+    let x = ex ∙ group_is (p / 4) (omega arith) in
+    let t = halves_is (p % 4) (omega arith) in
+    makes_one p l
+    (e
+    ∙ (λ i. tab 256 (made (product (matrix_of (x i)) (ef i) (et i))))
+    ∙ (λ i. tab 256 (made (product (matrix_of (boxes_at (p / 4))) (t i).0 (t i).1)))
+    ∙ sym (ap (λ (r : Rule). tab 256 (made r)) (lbox_rule p h))
+    ∙ made_table p l)
+
+pub sbox_makes : (p : ℕ) → 12 ≤ p → p - 12 < 3 → {r : List ℕ} {x : Boxes} → r ≡ sbox_of x → x ≡ get_or group (p - 12) x
+    → Makes p (Some r)
+sbox_makes p l h e ex =
+    let x = ex ∙ get_or_default group (p - 12) _ Scream h ∙ group_is (p - 12) h in
+    makes_one p (omega arith) (e ∙ ap sbox_of x ∙ sbox_place_lem p l (omega arith))

@@ -1,8 +1,7 @@
 -- What the maker of tables is asked for.
-use Rattle.std.specs.Prelude.{◌≡◌, Bool, cond, List, ℕ, ltb}
+use Rattle.std.specs.Prelude.{◌≡◌, cond, List, ℕ, ltb, Option, Some, None}
 use Rattle.printed.specs.Printed.{table}
 
--- the table at a place goes into the lent bytes; a place past the last makes nothing, and the answer says so
-pub record Makes (place : ℕ) (before after : List ℕ) (answer : Bool) : Type 0 where
-  pub says : answer ≡ ltb place 15
-  pub bytes : after ≡ cond (ltb place 15) (table place) before
+-- the table at a place; at a place past the last there is none
+pub record Makes (place : ℕ) (answer : Option (List ℕ)) : Type 0 where
+  pub says : answer ≡ cond (ltb place 15) (Some (table place)) None

@@ -1,55 +1,35 @@
 // The fifteen tables, made from the matrices and bit equations. No table is used.
 #![tactic(auto)]
 
-ghost use Rattle.std.specs.Prelude.{◌≡◌};
+ghost use Rattle.std.specs.Prelude.{◌≡◌, get_or};
 ghost use Rattle.bits.specs.Table.{tab};
 ghost use Rattle.sbox.specs.Sbox;
 ghost use Rattle.printed.specs.Rule.{made, product};
-ghost use Rattle.made_tables.specs.Boxes.{boxes_at, matrix_of, sbox_of, from_at, to_at};
+ghost use Rattle.made_tables.specs.Boxes.{matrix_of, sbox_of};
 ghost use Rattle.made_tables.specs.Makes.{Makes};
 
 use printed::Half;
+use std::array;
 
 // Whose boxes.
-#[derive(Clone, Copy)]
+#[derive(Clone, Copy, Debug, PartialEq, Eq, Hash)]
 pub enum Boxes {
     Scream,
     ScreamInverse,
     IScream,
 }
 
-// The boxes at a place of each group.
-fn boxes_at(g: usize) -> Boxes
-    ensures { result ≡ boxes_at g }
-{
-    if g == 0 {
-        return Boxes::Scream;
-    }
-    if g == 1 {
-        return Boxes::ScreamInverse;
-    }
-    Boxes::IScream
-}
+// In each group Scream's, its inverse's, iScream's.
+const GROUP: [Boxes; 3] = [Boxes::Scream, Boxes::ScreamInverse, Boxes::IScream];
 
-// The half of the word in which the byte stands, for table t of an L-box.
-fn from_at(t: usize) -> Half
-    ensures { result ≡ from_at t }
-{
-    if t < 2 { Half::Low } else { Half::High }
-}
-
-// The half of the product that is the entry.
-fn to_at(t: usize) -> Half
-    ensures { result ≡ to_at t }
-{
-    if t == 0 {
-        return Half::High;
-    }
-    if t == 2 {
-        return Half::High;
-    }
-    Half::Low
-}
+// Of each of an L-box's four tables, L1,1, L1,2, L2,1, L2,2, the half of the word in which the byte stands and the half of the product that
+// is the entry.
+const HALVES: [(Half, Half); 4] = [
+    (Half::Low, Half::High),
+    (Half::Low, Half::Low),
+    (Half::High, Half::High),
+    (Half::High, Half::Low),
+];
 
 fn matrix(x: Boxes) -> [[u8; 16]; 16]
     ensures { result ≡ matrix_of x }
@@ -77,41 +57,32 @@ fn lbox_table(x: Boxes, from: Half, to: Half) -> [u8; 256]
     ensures { result ≡ tab 256 (made (product (matrix_of x) from to)) }
 {
     let m = matrix(x);
-    let mut t = [0u8; 256];
-    let mut b: usize = 0;
-    while b < 256 {
-        let word = printed::in_half(from, (b % 256) as u8);
-        t[b] = printed::half_of(to, lbox::times(m, word));
-        b += 1;
-    }
-    t
+    // `as`, here and below: an index under 256 is the byte, and try_from would have a refusal that can't come.
+    array::from_fn(|b| printed::half_of(to, lbox::times(m, printed::in_half(from, b as u8))))
 }
 
-// An S-box: the equations run on each byte as a column.
+// An entry of an S-box: the equations run on the byte as a column.
+fn sbox_entry(x: Boxes, b: u8) -> u8
+    ensures { result ≡ get_or (sbox_of x) b 0 }
+{
+    sbox::column::first(equations(x, sbox::column::alone(b)))
+}
+
+// An S-box, by its entries.
 fn sbox_table(x: Boxes) -> [u8; 256]
     ensures { result ≡ sbox_of x }
 {
-    let mut t = [0u8; 256];
-    let mut b: usize = 0;
-    while b < 256 {
-        let w = equations(x, sbox::column::alone((b % 256) as u8));
-        t[b] = sbox::column::first(w);
-        b += 1;
-    }
-    t
+    array::from_fn(|b| sbox_entry(x, b as u8))
 }
 
-// The table at a place, into the lent bytes; past the last nothing is made, and the answer is false.
-pub fn make(place: usize, out: &mut [u8; 256]) -> bool
-    ensures { Makes place out.old out.new result }
+// The table at a place; past the last there is none.
+pub fn make(place: usize) -> Option<[u8; 256]>
+    ensures { Makes place result }
 {
-    if 15 <= place {
-        return false;
-    }
     if place < 12 {
-        *out = lbox_table(boxes_at(place / 4), from_at(place % 4), to_at(place % 4));
-    } else {
-        *out = sbox_table(boxes_at(place - 12));
+        let (from, to) = HALVES[place % 4];
+        return Some(lbox_table(GROUP[place / 4], from, to));
     }
-    true
+    let x = GROUP.get(place - 12)?;
+    Some(sbox_table(*x))
 }

@@ -2,24 +2,22 @@
 use mathlib.Core.Path.{◌≡◌, refl, sym, ap, ◌∙◌}
 use mathlib.Core.List.{List, [], ◌∷◌}
 use Prim.Native.Nat.{ℕ, zero, suc, ◌+◌, ◌-◌, ◌*◌, ◌/◌, ◌%◌, ◌^◌, ◌<◌}
-use native.Mathlib.Nat.{zero-mul, one-mul, add-mul, mul_right_comm, add_comm, mod-lt, mod-one, mod-eq_of_lt, div-one}
+use native.Mathlib.Nat.{zero-mul, one-mul, add-mul, mul_right_comm, add_comm, mod-lt, mod-one, mod-eq_of_lt}
 use native.Mathlib.Numerals.{one-add}
 use native.Mathlib.Omega.{arith}
 use lib.Bits.{bit_and, bit_xor, and_block, and_mask, xor_comm, xor_shifted}
-use lib.ListN.{length}
+use lib.ListN.{length, get_or}
 use lib.Pow.{pow_pos, split, shr-shr, field, mod-mod-pow, mod-pow-add}
 use Rattle.bits.specs.Bit.{bit}
+use Rattle.bits.specs.Table.{tab}
+use Rattle.bits.proofs.Lists.{get_or_tab}
 use Rattle.bits.proofs.Bits.{two, bit_lt}
 use Rattle.state.specs.declared.State.{State}
 use Rattle.state.specs.State.{rows_of}
 use Rattle.state.proofs.Words.{Digits, digits, xor_digits}
 use Rattle.lbox.specs.Lbox
 use Rattle.lbox.proofs.Matrix.{times_linear, times_lt}
-use Rattle.masks.specs.Products.{Products}
-
--- the lowest bit of each of the four rows
-abbrev pub ones : ℕ
-ones = 0x0001000100010001
+use Rattle.masks.specs.Products.{Products, ones, sum, sum_of}
 
 -- and with these: the lowest bits of the rows
 and_next : (z b : ℕ) → bit_and z (b * 65536 + 1) ≡ bit_and (z / 65536) b * 65536 + z % 2
@@ -82,13 +80,9 @@ product_digits x i c h k =
     ∙ (λ j.
     low_bit x i h j * c + row_bit 16 x i h j * c * 65536 + row_bit 32 x i h j * c * 4294967296 + row_bit 48 x i h j * c * 281474976710656))
 
--- f 0, up to f (n - 1), added by xor
-abbrev pub sum : ℕ → (ℕ → ℕ) → ℕ
-sum zero f = 0
-sum (suc n) f = bit_xor (sum n f) (f n)
-
 -- the digits of a sum are the sums of the digits
 sum_digits : (n : ℕ) (f a b c d : ℕ → ℕ) → ((i : ℕ) → i < n → Digits (f i) (a i) (b i) (c i) (d i)) → Digits (sum n f) (sum n a) (sum n b) (sum n c) (sum n d)
+unfolding sum
 sum_digits zero f a b c d h = record { first = refl; second = refl; third = refl; fourth = refl }
 sum_digits (suc n) f a b c d h =
     let s = sum_digits n f a b c d (λ i l. h i (omega arith)) in
@@ -103,7 +97,7 @@ sum_digits (suc n) f a b c d h =
 
 -- the columns at a row's bits, added: column i is the matrix times 2 ^ i
 by_bits : (m : List (List ℕ)) (d n : ℕ) → sum n (λ i. bit d i * Lbox.times m (2 ^ i)) ≡ Lbox.times m (d % 2 ^ n)
-unfolding bit
+unfolding bit sum
 by_bits m d zero = sym (ap (Lbox.times m) (mod-one d) ∙ (times_linear m).none)
 by_bits m d (suc n) =
     (λ j. bit_xor (by_bits m d n j) (scaled (bit d n) (bit_lt d n) j))
@@ -120,29 +114,26 @@ by_bits m d (suc n) =
         (zero-mul (Lbox.times m (2 ^ n)) ∙ sym (ap (Lbox.times m) (zero-mul (2 ^ n)) ∙ (times_linear m).none))
         (one-mul (Lbox.times m (2 ^ n)) ∙ sym (ap (Lbox.times m) (one-mul (2 ^ n))))
 
--- x with bit i as its lowest, as the code has it
-abbrev pub from : ℕ → ℕ → ℕ
-from x zero = x
-from x (suc i) = x / 2 ^ suc i
-
-from_is : (x i : ℕ) → from x i ≡ x / 2 ^ i
-from_is x zero = sym (div-one x)
-from_is x (suc i) = refl
+-- terms that are equal have equal sums
+sum_ext : (n : ℕ) (f g : ℕ → ℕ) → ((i : ℕ) → i < n → f i ≡ g i) → sum n f ≡ sum n g
+unfolding sum
+sum_ext zero f g h = refl
+sum_ext (suc n) f g h = λ j. bit_xor (sum_ext n f g (λ i l. h i (omega arith)) j) (h n (omega arith) j)
 
 module _ (m : List (List ℕ)) (long : length m ≡ 16) where
   -- the whole of the matrix times a row
   whole : (d : ℕ) → d < 65536 → sum 16 (λ i. bit d i * Lbox.times m (2 ^ i)) ≡ Lbox.times m d
   whole d h = by_bits m d 16 ∙ ap (Lbox.times m) (mod-eq_of_lt h)
 
-  pub products_are : (x : ℕ) → Products m x (sum 16 (λ i. bit_and (from x i) ones * Lbox.times m (2 ^ i)))
+  products_are : (x : ℕ) → Products m x (sum 16 (λ i. bit_and (x / 2 ^ i) ones * Lbox.times m (2 ^ i)))
   products_are x =
       let column : (i : ℕ) → Lbox.times m (2 ^ i) < 65536 = λ i. rw long at (times_lt m (2 ^ i)) in
-      let s = sum_digits 16 (λ i. bit_and (from x i) ones * Lbox.times m (2 ^ i))
+      let s = sum_digits 16 (λ i. bit_and (x / 2 ^ i) ones * Lbox.times m (2 ^ i))
       (λ i. bit (x % 65536) i * Lbox.times m (2 ^ i))
       (λ i. bit (x / 65536 % 65536) i * Lbox.times m (2 ^ i))
       (λ i. bit (x / 4294967296 % 65536) i * Lbox.times m (2 ^ i))
       (λ i. bit (x / 281474976710656 % 65536) i * Lbox.times m (2 ^ i))
-      (λ i h. rw (from_is x i) (product_digits x i (Lbox.times m (2 ^ i)) h (column i))) in
+      (λ i h. product_digits x i (Lbox.times m (2 ^ i)) h (column i)) in
       record {
         first = s.first ∙ whole (x % 65536) (omega arith);
         second = s.second ∙ whole (x / 65536 % 65536) (omega arith);
@@ -150,8 +141,20 @@ module _ (m : List (List ℕ)) (long : length m ≡ 16) where
         fourth = s.fourth ∙ whole (x / 281474976710656 % 65536) (omega arith);
       }
 
--- two words multiplied are the layer
-pub layer_is : (m : List (List ℕ)) (s r : State) → Products m s.low r.low → Products m s.high r.high → rows_of r ≡ Lbox.layer m (rows_of s)
-unfolding rows_of Lbox.layer
-layer_is m s r l h = λ i.
-    l.first i ∷ l.second i ∷ l.third i ∷ l.fourth i ∷ h.first i ∷ h.second i ∷ h.third i ∷ h.fourth i ∷ []
+  -- by columns that are the matrix times the single bits
+  module _ {columns : List ℕ} (are : columns ≡ tab 16 (λ i. Lbox.times m (2 ^ i))) where
+    summed_are : (x : ℕ) {r : ℕ} → r ≡ sum_of 16 columns x → Products m x r
+    summed_are x e =
+        let f : ℕ → ℕ = λ i. bit_and (x / 2 ^ i) ones in
+        let same = sum_ext 16 (λ i. f i * get_or columns i 0) (λ i. f i * Lbox.times m (2 ^ i))
+        (λ i h. ap (λ (n : ℕ). f i * n) (ap (λ (l : List ℕ). get_or l i 0) are ∙ get_or_tab 16 (λ i. Lbox.times m (2 ^ i)) i h)) in
+        rw (e ∙ same) (products_are x)
+
+    -- two words multiplied are the layer
+    pub layer_is : (s r : State) → r.low ≡ sum_of 16 columns s.low → r.high ≡ sum_of 16 columns s.high
+        → rows_of r ≡ Lbox.layer m (rows_of s)
+    unfolding rows_of Lbox.layer
+    layer_is s r e f =
+        let l = summed_are s.low e in
+        let h = summed_are s.high f in
+        λ i. l.first i ∷ l.second i ∷ l.third i ∷ l.fourth i ∷ h.first i ∷ h.second i ∷ h.third i ∷ h.fourth i ∷ []

@@ -13,14 +13,13 @@ use Rattle.calls.specs.Calls.{sum_of, filled}
 use Rattle.calls.specs.Pieces.{header_sum}
 use Rattle.calls.specs.Tweak.{header_tweak, special_tweak, blocks_of, inner, last_header_mark}
 use Rattle.calls.proofs.Tweaks.{length_tweak}
-use Rattle.cipher.specs.Entry.{enciphered_blocks}
 use Rattle.suites.specs.declared.suite.Suite.{Suite}
-use Rattle.blockwise.specs.Blocks.{block, strung}
+use Rattle.blockwise.specs.Blocks.{block, strung, each_block}
 use Rattle.blockwise.proofs.Each.{block_long, block_later, block_append, block_taken, block_of_strung, strung_whole}
 use Rattle.sums.specs.Sums.{sum_from}
 use Rattle.text_blocks.specs.Text.{Usable}
 use Rattle.text_blocks.specs.Under.{enciphers}
-use Rattle.text_blocks.proofs.Chunks.{enciphers_blockwise, enciphered_strung}
+use Rattle.text_blocks.proofs.Chunks.{enciphers_blockwise, each_strung}
 use Rattle.bits.proofs.Lists.{part_rest}
 use Rattle.sums.proofs.Sums.{sum_ext, sum_add, sum_of_lem, filled_whole}
 
@@ -43,7 +42,7 @@ sum_strung sum k g rest x long e =
 -- a chunk of k blocks from `first` on; y stands behind the tweaks, z behind the copied blocks
 module _ (s : Suite) (key : List ℕ) {nonce : List ℕ} (u : Usable s nonce) (first k : ℕ) (h sum : List ℕ) (room : 16 * k ≤ length h) where
   pub chunk_sum : (y z x : List ℕ)
-      → x ≡ enciphered_blocks s.cipher s.steps key (take (16 * k) (strung k (λ i. header_tweak nonce (first + i)) ++ y)) (take (16 * k) h ++ z)
+      → x ≡ each_block (enciphers s key) (take (16 * k) (strung k (λ i. header_tweak nonce (first + i)) ++ y)) (take (16 * k) h ++ z)
       → sum_from sum (length (take (16 * k) x) / 16) (block (take (16 * k) x))
       ≡ sum_from sum k (λ i. enciphers s key (header_tweak nonce (first + i)) (block h i))
   chunk_sum y z x e =
@@ -53,7 +52,7 @@ module _ (s : Suite) (key : List ℕ) {nonce : List ℕ} (u : Usable s nonce) (f
       let bl : 16 * k ≤ length b = omega (arith, length-append (take (16 * k) h) z, length-take-le (16 * k) h room) in
       sum_strung sum k (λ i. enciphers s key (tw i) (block b i)) (drop (16 * k) b) x
       (λ i m. (enciphers_blockwise s key).long (tw i) (block b i) (tl i) (block_long b i (omega arith)))
-      (e ∙ enciphered_strung k tw tl y b bl s key u.suite)
+      (e ∙ each_strung k tw tl y b bl (enciphers s key))
       ∙ sum_ext sum k (λ i. enciphers s key (tw i) (block b i)) (λ i. enciphers s key (tw i) (block h i))
       (λ i m. ap (enciphers s key (tw i)) (block_copied k h z room i m))
 

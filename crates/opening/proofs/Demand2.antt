@@ -1,4 +1,6 @@
 -- Demand 2 holds.
+use Rattle.suites.specs.Answer.{Answer}
+use Rattle.std.specs.Prelude.{Ok, Err}
 use mathlib.Core.Path.{◌≡◌, refl, sym, ap, ◌∙◌}
 use mathlib.Core.Bool.{Bool, true, false}
 use mathlib.Core.Logic.{◌⊎◌, inl, inr}
@@ -13,8 +15,6 @@ use Rattle.calls.specs.Pieces.{through, header_sum}
 use Rattle.calls.specs.Sealing.{opening_tag}
 use Rattle.calls.proofs.ByBlocks.{opening_tag_is, length_tag_from, length_checksum, length_header_sum, length_sealing}
 use Rattle.calls.proofs.Exact.{open_exact, open_sealed}
-use Rattle.suites.specs.declared.refusal.Answer.TheVariants.{Done, Refused}
-use Rattle.suites.specs.declared.refusal.Answer.{Answer}
 use Rattle.suites.specs.declared.suite.Suite.{Suite}
 use Rattle.suites.specs.Told.{Told, gives, refuses, told}
 use Rattle.suites.proofs.Numbers.{told_done}
@@ -50,13 +50,13 @@ use Rattle.opening.proofs.Opened.{opened_long}
 -- what tests that refuse with n tell of sealing and of opening, and what is left of the output
 module _ (n : ℕ) (some : 0 < n) (result out : List ℕ) where
   seal_refused : (a : Answer) (len count : ℕ) → told a ≡ refuses n → Does (seal_told (seal_report a len count)) (written a result out) (refuses n) out
-  seal_refused Done len count e = let z : 0 ≡ n = ap (λ (r : Told). r.number) e in absurd (omega arith)
-  seal_refused (Refused why) len count e = record { answer = e; output = refl }
+  seal_refused (Ok tt) len count e = let z : 0 ≡ n = ap (λ (r : Told). r.number) e in absurd (omega arith)
+  seal_refused (Err why) len count e = record { answer = e; output = refl }
 
   open_refused : (a : Answer) (ok : Bool) (len : ℕ) → told a ≡ refuses n
       → Does (open_told (open_report (then_tag a ok) len)) (written (then_tag a ok) result out) (refuses n) out
-  open_refused Done ok len e = let z : 0 ≡ n = ap (λ (r : Told). r.number) e in absurd (omega arith)
-  open_refused (Refused why) ok len e = record { answer = e; output = refl }
+  open_refused (Ok tt) ok len e = let z : 0 ≡ n = ap (λ (r : Told). r.number) e in absurd (omega arith)
+  open_refused (Err why) ok len e = record { answer = e; output = refl }
 
 module _ (u : Context) (key-bytes : Bytes u.key) (nonce-bytes : Bytes u.nonce) where
   S : Suite
@@ -107,7 +107,7 @@ module _ (u : Context) (key-bytes : Bytes u.key) (nonce-bytes : Bytes u.nonce) w
         ).0 (tag, q)
 
   module _ (s out : List ℕ) (openable : Openable u s out) where
-    op : open_tests u.cipher u.steps (length u.key) (length u.nonce) (length u.header) (length s) (length out) ≡ Done
+    op : open_tests u.cipher u.steps (length u.key) (length u.nonce) (length u.header) (length s) (length out) ≡ Ok tt
     op =
         told_done (open_tests u.cipher u.steps (length u.key) (length u.nonce) (length u.header) (length s) (length out))
         (ap (λ (r : Told). r.number)
@@ -128,13 +128,13 @@ module _ (u : Context) (key-bytes : Bytes u.key) (nonce-bytes : Bytes u.nonce) w
     text_long = opened_long S u.key u.nonce u.header s out p.sealed.inputs.short ∙ length-take-le (length s - 16) s (omega arith)
 
     -- the answer and the output, by what the comparison said
-    answer : (v : Bool) → A ≡ v → open_report (then_tag Done v) (length s - 16) ≡ open_answer u.cipher u.steps u.key u.nonce u.header s out
+    answer : (v : Bool) → A ≡ v → open_report (then_tag (Ok tt) v) (length s - 16) ≡ open_answer u.cipher u.steps u.key u.nonce u.header s out
     unfolding S A
-    answer v e = ap (λ (b : Bool). open_report (then_tag Done b) (length s - 16)) (sym e) ∙ (open_done S u.key u.nonce u.header s out op).0
+    answer v e = ap (λ (b : Bool). open_report (then_tag (Ok tt) b) (length s - 16)) (sym e) ∙ (open_done S u.key u.nonce u.header s out op).0
 
-    buffer : (v : Bool) → A ≡ v → written (then_tag Done v) text out ≡ open_buffer u.cipher u.steps u.key u.nonce u.header s out
+    buffer : (v : Bool) → A ≡ v → written (then_tag (Ok tt) v) text out ≡ open_buffer u.cipher u.steps u.key u.nonce u.header s out
     unfolding S A text
-    buffer v e = ap (λ (b : Bool). written (then_tag Done b) text out) (sym e) ∙ (open_done S u.key u.nonce u.header s out op).1
+    buffer v e = ap (λ (b : Bool). written (then_tag (Ok tt) b) text out) (sym e) ∙ (open_done S u.key u.nonce u.header s out op).1
 
     accepted : (t : List ℕ) → A ≡ true → text ≡ t → Accepts u s out t
     accepted t e q =
@@ -174,7 +174,7 @@ module _ (u : Context) (key-bytes : Bytes u.key) (nonce-bytes : Bytes u.nonce) w
   tests : List ℕ → List ℕ → Answer
   tests t out = seal_tests u.cipher u.steps (length u.key) (length u.nonce) (length u.header) (length t) (length out)
 
-  sealable-done : (t out : List ℕ) → Sealable u t out → seal_outcome u.cipher u.steps u.key u.nonce u.header t out ≡ Done
+  sealable-done : (t out : List ℕ) → Sealable u t out → seal_outcome u.cipher u.steps u.key u.nonce u.header t out ≡ Ok tt
   unfolding seal_outcome tests
   sealable-done t out sealable =
       told_done (tests t out)

@@ -1,4 +1,5 @@
 -- The first window of a text, and what `open` answers.
+use Rattle.std.specs.Prelude.{Ok, Err}
 use mathlib.Core.Path.{◌≡◌, sym, ap, ◌∙◌}
 use mathlib.Core.Bool.{Bool, true, false}
 use mathlib.Core.List.{List, ◌++◌}
@@ -8,7 +9,6 @@ use lib.ListN.{length, take, drop, length-append, length-drop}
 use lib.Seq.{take_all, take_at}
 use Rattle.calls.specs.Sealing.{opening_tag}
 use Rattle.calls.proofs.ByBlocks.{opening_is, length_through}
-use Rattle.suites.specs.declared.refusal.Answer.TheVariants.{Done, Refused}
 use Rattle.suites.specs.declared.refusal.Refusal.TheVariants.{TagDiffers}
 use Rattle.suites.specs.declared.suite.Suite.{Suite}
 use Rattle.bits.specs.Bytes.{same_bytes}
@@ -50,20 +50,20 @@ module _ (s : Suite) (key nonce h x out : List ℕ) (short : length nonce ≤ 15
 
   -- the answer and the output where the tag agrees, and where it does not
   pub with_tag : agrees s.cipher s.steps key nonce h x ≡ true
-      → Compared s key nonce h x out Done (text_of s key nonce (ciphertext x) ++ drop (length (ciphertext x)) out)
+      → Compared s key nonce h x out (Ok tt) (text_of s key nonce (ciphertext x) ++ drop (length (ciphertext x)) out)
   with_tag e =
       record {
-        answer = ap (λ (b : Bool). then_tag Done b) (sym e);
+        answer = ap (λ (b : Bool). then_tag (Ok tt) b) (sym e);
         output =
             (λ j. sym opened_is j ++ drop (sym opened_long j) out)
-            ∙ ap (λ (b : Bool). written (then_tag Done b) (opened s.cipher s.steps key nonce h x) out) (sym e);
+            ∙ ap (λ (b : Bool). written (then_tag (Ok tt) b) (opened s.cipher s.steps key nonce h x) out) (sym e);
       }
 
-  pub without_tag : agrees s.cipher s.steps key nonce h x ≡ false → Compared s key nonce h x out (Refused TagDiffers) out
+  pub without_tag : agrees s.cipher s.steps key nonce h x ≡ false → Compared s key nonce h x out (Err TagDiffers) out
   without_tag e =
       record {
-        answer = ap (λ (b : Bool). then_tag Done b) (sym e);
-        output = ap (λ (b : Bool). written (then_tag Done b) (opened s.cipher s.steps key nonce h x) out) (sym e);
+        answer = ap (λ (b : Bool). then_tag (Ok tt) b) (sym e);
+        output = ap (λ (b : Bool). written (then_tag (Ok tt) b) (opened s.cipher s.steps key nonce h x) out) (sym e);
       }
 
 -- the comparison that the code makes

@@ -1,8 +1,8 @@
 -- What `open` answers, and what it leaves in the output.
-use Rattle.std.specs.Prelude.{◌≡◌, Bool, List, [], ◌∷◌, ℕ, ◌-◌, ◌≤◌, length, take, drop}
+use Rattle.suites.specs.Answer.{Answer}
+use Rattle.suites.specs.declared.refusal.Refusal.{Refusal}
+use Rattle.std.specs.Prelude.{◌≡◌, Bool, List, [], ◌∷◌, ℕ, ◌-◌, ◌^◌, ◌≤◌, length, take, drop, Result, Ok, Err}
 use Rattle.calls.specs.Sealing.{opening, opening_tag}
-use Rattle.suites.specs.declared.refusal.Answer.{Answer}
-use Rattle.suites.specs.declared.refusal.Answer.TheVariants.{Done, Refused}
 use Rattle.suites.specs.declared.refusal.Refusal.TheVariants.{TagDiffers}
 use Rattle.suites.specs.declared.suite.Suite.{Suite}
 use Rattle.suites.specs.Refusal.{number}
@@ -11,9 +11,6 @@ use Rattle.suites.specs.Told.{Told, gives, refuses}
 use Rattle.limits.specs.Tests.{unless, open_tests}
 use Rattle.bits.specs.Bytes.{same_bytes}
 use Rattle.rounds.specs.Cipher.{encipher, decipher}
-use Rattle.opening.specs.declared.open.OpenAnswer.{OpenAnswer}
-use Rattle.opening.specs.declared.open.OpenAnswer.TheVariants.{Opened, Refused as OpenRefused}
-use Rattle.sealing.specs.Passes.{Passable}
 use Rattle.sealing.specs.Seal.{written}
 
 -- "Sealed bytes are ciphertext, then tag."
@@ -32,17 +29,16 @@ agrees cipher steps key nonce header s =
 
 -- the tag is looked at where no earlier refusal applies: "tag differs: 8"
 abbrev pub then_tag : Answer → Bool → Answer
-then_tag Done ok = unless ok TagDiffers Done
-then_tag (Refused why) ok = Refused why
+then_tag (Ok tt) ok = unless ok TagDiffers (Ok tt)
+then_tag (Err why) ok = Err why
 
 -- the answer where nothing but the tag is left to look at
 abbrev pub by_tag : Suite → List ℕ → List ℕ → List ℕ → List ℕ → Answer
-by_tag s key nonce header x = then_tag Done (agrees s.cipher s.steps key nonce header x)
+by_tag s key nonce header x = then_tag (Ok tt) (agrees s.cipher s.steps key nonce header x)
 
--- what the code asks for behind the tests 1 to 7
-pub record Tested (s : Suite) (nonce h x out : List ℕ) : Type 0 where
-  pub header : Passable s nonce h
-  pub text : Passable s nonce (ciphertext x)
+-- what the code asks for behind the tests 1 to 7, beside what a `Context` says of suite, nonce and header
+pub record Tested (x out : List ℕ) : Type 0 where
+  pub small : length (ciphertext x) ≤ 2 ^ 24
   pub long : 16 ≤ length x
   pub room : length x - 16 ≤ length out
 
@@ -56,14 +52,18 @@ unfoldable pub open_outcome : ℕ → ℕ → List ℕ → List ℕ → List ℕ
 open_outcome cipher steps key nonce header s out =
     then_tag (open_tests cipher steps (length key) (length nonce) (length header) (length s) (length out)) (agrees cipher steps key nonce header s)
 
+-- the length of the text, or the refusal
+abbrev pub OpenAnswer : Type 0
+OpenAnswer = Result ℕ Refusal
+
 -- "open its length"
 abbrev pub open_report : Answer → ℕ → OpenAnswer
-open_report Done len = Opened len
-open_report (Refused why) len = OpenRefused why
+open_report (Ok tt) len = Ok len
+open_report (Err why) len = Err why
 
 abbrev pub open_told : OpenAnswer → Told
-open_told (Opened len) = gives (len ∷ [])
-open_told (OpenRefused why) = refuses (number why)
+open_told (Ok len) = gives (len ∷ [])
+open_told (Err why) = refuses (number why)
 
 unfoldable pub open_answer : ℕ → ℕ → List ℕ → List ℕ → List ℕ → List ℕ → List ℕ → OpenAnswer
 open_answer cipher steps key nonce header s out = open_report (open_outcome cipher steps key nonce header s out) (length s - 16)

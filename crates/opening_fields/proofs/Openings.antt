@@ -1,4 +1,5 @@
 -- The opening fields: those that are written are read back, and those that are read were written.
+use Rattle.std.specs.Prelude.{Ok}
 use mathlib.Core.Path.{◌≡◌, refl, sym, ap, ◌∙◌}
 use mathlib.Core.Bool.{true, and-eq-true_iff}
 use mathlib.Core.List.{List, [], ◌∷◌, ◌++◌, append_assoc, append-nil}
@@ -10,7 +11,6 @@ use lib.Seq.{length-take-le, take-nil, take-take, drop-drop, get_or-take}
 use Rattle.bits.specs.Bytes.{Bytes, big_endian, number_of}
 use Rattle.bits.proofs.BigEndian.{length_big_endian, number_of_lt, big_endian_number_of, number_of_big_endian}
 use Rattle.bits.proofs.Lists.{part_at}
-use Rattle.suites.specs.declared.refusal.Answer.TheVariants.{Done}
 use Rattle.suites.specs.declared.refusal.Refusal.TheVariants.{SuiteNotListed, FieldMalformed}
 use Rattle.suites.specs.declared.suite.Suite.{Suite}
 use Rattle.suites.specs.Suite.{listed}
@@ -48,7 +48,7 @@ module _ (suite : Suite) (number : ℕ) (rest : List ℕ) where
       ))
 
   pub opening_here : number < 2 ^ 64 → listed suite.cipher suite.steps ≡ true
-      → (opening_tests (opening_fields suite number ++ rest) ≡ Done)
+      → (opening_tests (opening_fields suite number ++ rest) ≡ Ok tt)
       × (opening_suite (opening_fields suite number ++ rest) ≡ suite)
       × (opening_number (opening_fields suite number ++ rest) ≡ number)
       × (after_opening (opening_fields suite number ++ rest) ≡ rest)
@@ -94,7 +94,7 @@ module _ (s : List ℕ) (bytes : Bytes s) (one : has_field 0x01 8 s ≡ true) (t
       ∙ (λ i. field 0x01 (big_endian 8 (opening_number s)) ++ (field 0x02 (suite-held i) ++ after-held i))
       ∙ sym (append_assoc (field 0x01 (big_endian 8 (opening_number s))) (field 0x02 c) (after_opening s))
 
-opening_told : (s : List ℕ) → Bytes s → opening_tests s ≡ Done
+opening_told : (s : List ℕ) → Bytes s → opening_tests s ≡ Ok tt
     → (listed (opening_suite s).cipher (opening_suite s).steps ≡ true) × (opening_number s < 2 ^ 64)
     × (s ≡ opening_fields (opening_suite s) (opening_number s) ++ after_opening s)
 unfolding opening_tests has_opening
@@ -105,11 +105,11 @@ opening_told s bytes e =
     (suite.0, number_fits s bytes both.0 both.1, opening-held s bytes both.0 both.1)
 
 -- opening fields that pass their tests
-pub opening_passed : (s : List ℕ) → opening_tests s ≡ Done → (listed (opening_suite s).cipher (opening_suite s).steps ≡ true) × (16 ≤ length s)
+pub opening_passed : (s : List ℕ) → opening_tests s ≡ Ok tt → (listed (opening_suite s).cipher (opening_suite s).steps ≡ true) × (16 ≤ length s)
 unfolding opening_tests has_opening
 opening_passed s e =
     let has = unless_passed (has_opening s) FieldMalformed _ e in
-    let suite = unless_passed (listed (opening_suite s).cipher (opening_suite s).steps) SuiteNotListed Done has.1 in
+    let suite = unless_passed (listed (opening_suite s).cipher (opening_suite s).steps) SuiteNotListed (Ok tt) has.1 in
     let both = (and-eq-true_iff (has_field 0x01 8 s) (has_field 0x02 2 (after_field 8 s))).0 has.0 in
     (suite.0, omega (arith, length_after 0x01 8 s both.0, field_told 0x02 2 (after_field 8 s) both.1))
 
@@ -151,7 +151,7 @@ module _ (s : List ℕ) where
   front_rest = take-append-drop 16 s
 
   -- where they pass their tests
-  module _ (done : opening_tests s ≡ Done) where
+  module _ (done : opening_tests s ≡ Ok tt) where
     pub front_long : length (opening_bytes s) ≡ 16
     unfolding opening_bytes
     front_long = length-take-le 16 s (opening_passed s done).1

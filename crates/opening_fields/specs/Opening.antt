@@ -1,8 +1,7 @@
 -- The opening fields at a book's start: "A book: 01 (8 bytes, book number), 02 (suite), units, close."
-use Rattle.std.specs.Prelude.{Bool, ◌&&◌, List, ℕ, eqb, get_or, take, drop}
+use Rattle.suites.specs.Answer.{Answer}
+use Rattle.std.specs.Prelude.{Bool, ◌&&◌, List, ℕ, eqb, get_or, take, drop, Ok}
 use Rattle.bits.specs.Bytes.{number_of}
-use Rattle.suites.specs.declared.refusal.Answer.{Answer}
-use Rattle.suites.specs.declared.refusal.Answer.TheVariants.{Done}
 use Rattle.suites.specs.declared.refusal.Refusal.TheVariants.{SuiteNotListed, KeyLength, FieldMalformed}
 use Rattle.suites.specs.declared.suite.Suite.{Suite}
 use Rattle.suites.specs.Suite.{listed}
@@ -32,7 +31,7 @@ unfoldable pub opening_tests : List ℕ → Answer
 opening_tests s =
     unless (has_opening s) FieldMalformed
     (unless (listed (opening_suite s).cipher (opening_suite s).steps) SuiteNotListed
-    Done)
+    (Ok tt))
 
 -- "Check: 2; 14 of 01 and 02; 1", under a key of k bytes
 unfoldable pub check_tests : ℕ → List ℕ → Answer

@@ -4,7 +4,7 @@
 ghost use Rattle.std.specs.Prelude.{◌≡◌, length, get_or};
 ghost use Rattle.opening_fields.specs.Opening.{has_opening, opening_number, opening_suite, opening_tests, check_tests};
 
-use suites::refusal::{Answer, Refusal};
+use suites::refusal::Refusal;
 use suites::suite::Suite;
 
 // The byte at a place, 0 past the end.
@@ -44,25 +44,25 @@ pub fn suite(s: &[u8]) -> Suite
 }
 
 // Refusals 14 and 1 of the opening fields.
-pub fn tests(s: &[u8]) -> Answer
+pub fn tests(s: &[u8]) -> Result<(), Refusal>
     ensures { result ≡ opening_tests s.now }
 {
     if !is_there(s) {
-        return Answer::Refused(Refusal::FieldMalformed);
+        return Err(Refusal::FieldMalformed);
     }
     if !suite(s).is_listed() {
-        return Answer::Refused(Refusal::SuiteNotListed);
+        return Err(Refusal::SuiteNotListed);
     }
-    Answer::Done
+    Ok(())
 }
 
 // The same under a key that has to have 16 bytes. Refusals: 2; 14, 1.
 #[tactic(auto, unfolding(crate::specs::Opening::check_tests))]
-pub fn tests_under(key: &[u8], s: &[u8]) -> Answer
+pub fn tests_under(key: &[u8], s: &[u8]) -> Result<(), Refusal>
     ensures { result ≡ check_tests (length key.now) s.now }
 {
     if key.len() != 16 {
-        return Answer::Refused(Refusal::KeyLength);
+        return Err(Refusal::KeyLength);
     }
     tests(s)
 }

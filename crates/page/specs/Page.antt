@@ -1,8 +1,8 @@
 -- The page of a book and a typed sentence: its bytes, what `page` answers, and what it leaves in the buffer. In the definitions of a frame, o are
 -- the bytes of the book's opening fields, n is the running number and s the bytes of the book from the place on.
-use Rattle.std.specs.Prelude.{List, [], ◌∷◌, ◌++◌, ℕ, zero, suc, leb, length}
-use Rattle.suites.specs.declared.refusal.Answer.{Answer}
-use Rattle.suites.specs.declared.refusal.Answer.TheVariants.{Done, Refused}
+use Rattle.suites.specs.Answer.{Answer}
+use Rattle.suites.specs.declared.refusal.Refusal.{Refusal}
+use Rattle.std.specs.Prelude.{List, [], ◌∷◌, ◌++◌, ℕ, zero, suc, leb, length, Result, Ok, Err}
 use Rattle.suites.specs.declared.refusal.Refusal.TheVariants.{OutputTooShort}
 use Rattle.suites.specs.Refusal.{number}
 use Rattle.suites.specs.Told.{Told, gives, refuses}
@@ -15,13 +15,9 @@ use Rattle.kinds.specs.Kind.{kind_of, book_kind}
 use Rattle.parser.specs.Frame.{after_header, after_unit}
 use Rattle.opening_fields.specs.Opening.{opening_bytes, after_opening}
 use Rattle.seals.specs.Seal.{unit_opened}
-use Rattle.checker.specs.declared.check.CheckAnswer.{CheckAnswer}
-use Rattle.checker.specs.declared.check.CheckAnswer.TheVariants.{Accepted, Refused as CheckRefused}
-use Rattle.checker.specs.Check.{check_answer}
+use Rattle.checker.specs.Check.{check_answer, CheckAnswer}
 use Rattle.score.specs.Score.{score}
 use Rattle.rows.specs.Row.{row_of}
-use Rattle.page.specs.declared.PageAnswer.{PageAnswer}
-use Rattle.page.specs.declared.PageAnswer.TheVariants.{Written, Refused as PageRefused}
 
 -- the row of a source, compared with the typed sentence: "source length right-aligned in 5 columns, two blanks, score in 4, a line feed"
 unfoldable pub row : List ℕ → List ℕ → List ℕ
@@ -47,28 +43,32 @@ sources_from kind key o (suc count) n s =
 
 -- the page of the book s, by what check answers: the rows of the units that it counts, none where it refuses
 unfoldable pub page_by : CheckAnswer → List ℕ → List ℕ → List ℕ → List ℕ
-page_by (Accepted n t) key s typed = rows typed (sources_from (kind_of (book_kind s)) key (opening_bytes s) n 0 (after_opening s))
-page_by (CheckRefused why) key s typed = []
+page_by (Ok t) key s typed = rows typed (sources_from (kind_of (book_kind s)) key (opening_bytes s) t.units 0 (after_opening s))
+page_by (Err why) key s typed = []
 
 unfoldable pub page_bytes : List ℕ → List ℕ → List ℕ → List ℕ
 page_bytes key s typed = page_by (check_answer key s) key s typed
 
 -- "A book that checking refuses gives that refusal, then a short page buffer gives 7": a page of so many bytes, in a buffer of r
 abbrev pub outcome_by : CheckAnswer → ℕ → ℕ → Answer
-outcome_by (Accepted n t) long r = unless (leb long r) OutputTooShort Done
-outcome_by (CheckRefused why) long r = Refused why
+outcome_by (Ok t) long r = unless (leb long r) OutputTooShort (Ok tt)
+outcome_by (Err why) long r = Err why
 
 unfoldable pub page_outcome : List ℕ → List ℕ → List ℕ → ℕ → Answer
 page_outcome key s typed r = outcome_by (check_answer key s) (length (page_bytes key s typed)) r
 
+-- the page's length, or the refusal
+abbrev pub PageAnswer : Type 0
+PageAnswer = Result ℕ Refusal
+
 -- "its length in bytes is returned"
 abbrev pub page_report : Answer → ℕ → PageAnswer
-page_report Done long = Written long
-page_report (Refused why) long = PageRefused why
+page_report (Ok tt) long = Ok long
+page_report (Err why) long = Err why
 
 abbrev pub page_told : PageAnswer → Told
-page_told (Written long) = gives (long ∷ [])
-page_told (PageRefused why) = refuses (number why)
+page_told (Ok long) = gives (long ∷ [])
+page_told (Err why) = refuses (number why)
 
 unfoldable pub page_answer : List ℕ → List ℕ → List ℕ → List ℕ → PageAnswer
 page_answer key s typed page = page_report (page_outcome key s typed (length page)) (length (page_bytes key s typed))

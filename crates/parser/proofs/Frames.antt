@@ -1,4 +1,7 @@
 -- Frames: fields that are written are read back, and those that are read were written.
+use Rattle.suites.specs.Answer.{Answer}
+use Rattle.parser.specs.declared.frame.Frame.TheVariants.{Close, Unit}
+use Rattle.std.specs.Prelude.{cond, Some, None, Ok, Err}
 use mathlib.Core.Path.{◌≡◌, refl, sym, ap, subst, ◌∙◌}
 use mathlib.Core.Bool.{Bool, true, false, ◌&&◌, and-eq-true_iff, and-false}
 use mathlib.Core.List.{List, ◌++◌, append_assoc}
@@ -11,9 +14,8 @@ use lib.Seq.{take_at, drop_at, take_all, take-add, drop-drop, length-take-le}
 use Rattle.bits.specs.Bytes.{Bytes, big_endian, number_of}
 use Rattle.bits.proofs.BigEndian.{length_big_endian, number_of_lt, big_endian_number_of, number_of_big_endian}
 use Rattle.bits.proofs.Bytes.{bytes_take, bytes_drop}
-use Rattle.suites.specs.declared.refusal.Answer.{Answer}
-use Rattle.suites.specs.declared.refusal.Answer.TheVariants.{Done, Refused}
 use Rattle.suites.specs.declared.refusal.Refusal.TheVariants.{FieldMalformed}
+use Rattle.limits.specs.Tests.{unless}
 use Rattle.limits.proofs.Passed.{unless_passed, unless_passes}
 use Rattle.fields.specs.Field.{field_head, field, field_length, has_field, field_value, after_field}
 use Rattle.fields.specs.Kind.{Kind, WellFormed}
@@ -27,7 +29,6 @@ use Rattle.kinds.specs.Kind.{kind_of}
 use Rattle.kinds.specs.Lengths.{header_bytes}
 use Rattle.kinds.proofs.Formed.{formed}
 use Rattle.fields.proofs.Fields.{field_told, value_long, field_held}
-use Rattle.parser.specs.declared.frame.Frame.TheVariants.{Unit, Close}
 use Rattle.parser.specs.Frame.{
   most_units,
   ciphertext_allowed,
@@ -46,7 +47,7 @@ use Rattle.parser.specs.Frame.{
   frame_of,
   begins_close,
   frame_at,
-  ciphertext_length,
+  ciphertext_of,
   Readable,
 }
 use Rattle.fields.proofs.Values.{bytes_after, value_at, after_at, length_at, field_at, length_after}
@@ -222,46 +223,46 @@ module _ (kind : Kind) (s : List ℕ) (has : has_field kind.header_tag (header_b
 
 -- frames by their first byte
 module _ (kind : Kind) (n : ℕ) (s : List ℕ) where
-  frame_unit : begins_close kind s ≡ false → frame_at kind n s ≡ frame_of (unit_tests kind n s) (Unit (field_length (after_header kind s)))
+  frame_unit : begins_close kind s ≡ false → frame_at kind n s ≡ frame_of (unit_tests kind n s) (Ok (Unit (field_length (after_header kind s))))
   unfolding frame_at
   frame_unit e = rw e
 
-  frame_close : begins_close kind s ≡ true → frame_at kind n s ≡ frame_of (close_tests kind n s) Close
+  frame_close : begins_close kind s ≡ true → frame_at kind n s ≡ frame_of (close_tests kind n s) (Ok Close)
   unfolding frame_at
   frame_close e = rw e
 
   -- a unit or a close is what passed its tests
-  unit_passed : (m : ℕ) → frame_at kind n s ≡ Unit m → (unit_tests kind n s ≡ Done) × (field_length (after_header kind s) ≡ m)
+  unit_passed : (m : ℕ) → frame_at kind n s ≡ Ok (Unit m) → (unit_tests kind n s ≡ Ok tt) × (field_length (after_header kind s) ≡ m)
   unit_passed m e = by (begins_close kind s) refl
     where
-      of : (a : Answer) (k : ℕ) → frame_of a (Unit k) ≡ Unit m → (a ≡ Done) × (k ≡ m)
-      of Done k q = (refl, cc)
-      of (Refused why) k q = let z : ◌≡◌ {A = ℕ} 0 1 = cc in absurd (omega arith)
+      of : (a : Answer) (k : ℕ) → frame_of a (Ok (Unit k)) ≡ Ok (Unit m) → (a ≡ Ok tt) × (k ≡ m)
+      of (Ok tt) k q = (refl, cc)
+      of (Err why) k q = let z : ◌≡◌ {A = ℕ} 0 1 = cc in absurd (omega arith)
 
-      other : (a : Answer) → frame_of a Close ≡ Unit m → ⊥
-      other Done q = let z : ◌≡◌ {A = ℕ} 0 1 = cc in omega arith
-      other (Refused why) q = let z : ◌≡◌ {A = ℕ} 0 1 = cc in omega arith
+      other : (a : Answer) → frame_of a (Ok Close) ≡ Ok (Unit m) → ⊥
+      other (Ok tt) q = let z : ◌≡◌ {A = ℕ} 0 1 = cc in omega arith
+      other (Err why) q = let z : ◌≡◌ {A = ℕ} 0 1 = cc in omega arith
 
-      by : (v : Bool) → begins_close kind s ≡ v → (unit_tests kind n s ≡ Done) × (field_length (after_header kind s) ≡ m)
+      by : (v : Bool) → begins_close kind s ≡ v → (unit_tests kind n s ≡ Ok tt) × (field_length (after_header kind s) ≡ m)
       by true q = absurd (other (close_tests kind n s) (sym (frame_close q) ∙ e))
       by false q = of (unit_tests kind n s) (field_length (after_header kind s)) (sym (frame_unit q) ∙ e)
 
-  close_passed : frame_at kind n s ≡ Close → close_tests kind n s ≡ Done
+  close_passed : frame_at kind n s ≡ Ok Close → close_tests kind n s ≡ Ok tt
   close_passed e = by (begins_close kind s) refl
     where
-      of : (a : Answer) → frame_of a Close ≡ Close → a ≡ Done
-      of Done q = refl
-      of (Refused why) q = let z : ◌≡◌ {A = ℕ} 0 1 = cc in absurd (omega arith)
+      of : (a : Answer) → frame_of a (Ok Close) ≡ Ok Close → a ≡ Ok tt
+      of (Ok tt) q = refl
+      of (Err why) q = let z : ◌≡◌ {A = ℕ} 0 1 = cc in absurd (omega arith)
 
-      other : (a : Answer) (k : ℕ) → frame_of a (Unit k) ≡ Close → ⊥
-      other Done k q = let z : ◌≡◌ {A = ℕ} 0 1 = cc in omega arith
-      other (Refused why) k q = let z : ◌≡◌ {A = ℕ} 0 1 = cc in omega arith
+      other : (a : Answer) (k : ℕ) → frame_of a (Ok (Unit k)) ≡ Ok Close → ⊥
+      other (Ok tt) k q = let z : ◌≡◌ {A = ℕ} 0 1 = cc in omega arith
+      other (Err why) k q = let z : ◌≡◌ {A = ℕ} 0 1 = cc in omega arith
 
-      by : (v : Bool) → begins_close kind s ≡ v → close_tests kind n s ≡ Done
+      by : (v : Bool) → begins_close kind s ≡ v → close_tests kind n s ≡ Ok tt
       by true q = of (close_tests kind n s) (sym (frame_close q) ∙ e)
       by false q = absurd (other (unit_tests kind n s) (field_length (after_header kind s)) (sym (frame_unit q) ∙ e))
 
--- a frame's ciphertext has the length of the unit's there: what begins as a close is no unit
+-- a frame's ciphertext is that of the unit there: what begins as a close is no unit
 module _ (kind : Kind) (wf : WellFormed kind) (n : ℕ) (s : List ℕ) where
   pub no_header : begins_close kind s ≡ true → has_field kind.header_tag (header_bytes kind) s ≡ false
   unfolding begins_close has_field
@@ -269,31 +270,36 @@ module _ (kind : Kind) (wf : WellFormed kind) (n : ℕ) (s : List ℕ) where
       let tag = eqb-true (get_or s 0 0) kind.close_tag e in
       rw (ne_eqb (get_or s 0 0) kind.header_tag (λ q. wf.tags_differ (sym q ∙ tag)), and-false) refl
 
-  no-unit : begins_close kind s ≡ true → unit_tests kind n s ≡ Refused FieldMalformed
+  no-unit : begins_close kind s ≡ true → unit_tests kind n s ≡ Err FieldMalformed
   unfolding unit_tests
   no-unit e = rw (no_header e) refl
 
-  close-length : (a : Answer) → ciphertext_length (frame_of a Close) ≡ 0
-  close-length Done = refl
-  close-length (Refused why) = refl
+  close-none : (a : Answer) → ciphertext_of (frame_of a (Ok Close)) ≡ None
+  close-none (Ok tt) = refl
+  close-none (Err why) = refl
 
-  pub length_by_unit : ciphertext_length (frame_at kind n s) ≡ ciphertext_length (frame_of (unit_tests kind n s) (Unit (field_length (after_header kind s))))
-  length_by_unit = by (begins_close kind s) refl
+  pub ciphertext_by_unit : ciphertext_of (frame_at kind n s) ≡ ciphertext_of (frame_of (unit_tests kind n s) (Ok (Unit (field_length (after_header kind s)))))
+  ciphertext_by_unit = by (begins_close kind s) refl
     where
       by : (v : Bool) → begins_close kind s ≡ v
-          → ciphertext_length (frame_at kind n s) ≡ ciphertext_length (frame_of (unit_tests kind n s) (Unit (field_length (after_header kind s))))
+          → ciphertext_of (frame_at kind n s) ≡ ciphertext_of (frame_of (unit_tests kind n s) (Ok (Unit (field_length (after_header kind s)))))
       by true q =
-          ap ciphertext_length (frame_close kind n s q)
-          ∙ close-length (close_tests kind n s)
-          ∙ sym (ap (λ (a : Answer). ciphertext_length (frame_of a (Unit (field_length (after_header kind s))))) (no-unit q))
-      by false q = ap ciphertext_length (frame_unit kind n s q)
+          ap ciphertext_of (frame_close kind n s q)
+          ∙ close-none (close_tests kind n s)
+          ∙ sym (ap (λ (a : Answer). ciphertext_of (frame_of a (Ok (Unit (field_length (after_header kind s)))))) (no-unit q))
+      by false q = ap ciphertext_of (frame_unit kind n s q)
+
+-- fields 11 and 12 as they were looked for
+pub ciphertext_there : (b : Bool) (m : ℕ) → cond b (Some m) None ≡ ciphertext_of (frame_of (unless b FieldMalformed (Ok tt)) (Ok (Unit m)))
+ciphertext_there true m = refl
+ciphertext_there false m = refl
 
 -- a unit, of a kind, a number, the details, a ciphertext's length, sealed bytes, and what follows
 module _ (kind : Kind) (wf : WellFormed kind) (n : ℕ) (d : List ℕ) (m : ℕ) (x rest : List ℕ) where
   pub unit_here : n < 256 ^ kind.number_bytes → n < most_units → length d ≡ details_length kind
       → pair_allowed (take kind.code_bytes d) (take kind.code_bytes (drop kind.code_bytes d)) ≡ true
       → 3 ≤ m → m ≤ 8194 → length x ≡ m + 16
-      → (frame_at kind n (unit_frame kind n d m x rest) ≡ Unit m)
+      → (frame_at kind n (unit_frame kind n d m x rest) ≡ Ok (Unit m))
       × (frame_details kind (unit_frame kind n d m x rest) ≡ d)
       × (frame_sealed kind m (unit_frame kind n d m x rest) ≡ x)
       × (after_unit kind m (unit_frame kind n d m x rest) ≡ rest)
@@ -305,13 +311,13 @@ module _ (kind : Kind) (wf : WellFormed kind) (n : ℕ) (d : List ℕ) (m : ℕ)
       let details : frame_details kind s ≡ d = details-here kind n d r ld in
       let sealed = sealed-here m x rest least most lx in
       let number : frame_number kind s ≡ n = unit-number kind n d r fits in
-      let passed : unit_tests kind n s ≡ Done =
+      let passed : unit_tests kind n s ≡ (Ok tt) =
       unless_passes (has_field kind.header_tag (header_bytes kind) s) _ _ header.0
       (unless_passes (ltb n most_units) _ _ (lt-ltb n most_units few)
       (unless_passes (eqb (frame_number kind s) n) _ _ (eq-eqb (frame_number kind s) n number)
       (unless_passes (pair_allowed (frame_from kind s) (frame_to kind s)) _ _ (rw details pair)
       (unless_passes (has_sealed (after_header kind s)) _ _ (ap has_sealed header.1 ∙ sealed.0) refl)))) in (
-        frame_unit kind n s (unit-begins kind n d r wf) ∙ (λ i. frame_of (passed i) (Unit ((ap field_length header.1 ∙ sealed.1) i))),
+        frame_unit kind n s (unit-begins kind n d r wf) ∙ (λ i. frame_of (passed i) (Ok (Unit ((ap field_length header.1 ∙ sealed.1) i)))),
         details,
         ap (fields_joined m) header.1 ∙ sealed.2,
         ap (λ (l : List ℕ). after_field 16 (after_field m l)) header.1 ∙ sealed.3,
@@ -332,7 +338,7 @@ pub record UnitTold (kind : Kind) (n m : ℕ) (s : List ℕ) : Type 0 where
   -- the fields were written
   pub written : Bytes s → s ≡ unit_frame kind n (frame_details kind s) m (frame_sealed kind m s) (after_unit kind m s)
 
-unit_read : (kind : Kind) (n : ℕ) (s : List ℕ) → unit_tests kind n s ≡ Done → UnitTold kind n (field_length (after_header kind s)) s
+unit_read : (kind : Kind) (n : ℕ) (s : List ℕ) → unit_tests kind n s ≡ Ok tt → UnitTold kind n (field_length (after_header kind s)) s
 unfolding unit_tests frame_sealed after_unit after_header
 unit_read kind n s e =
     let r = after_header kind s in
@@ -358,19 +364,19 @@ unit_read kind n s e =
           ∙ (λ i. unit_header kind (stated i) (frame_details kind s) ++ sealed-held r sealed.0 (bytes_after (header_bytes kind) s b) i);
     }
 
-pub unit_told : (kind : Kind) (n m : ℕ) (s : List ℕ) → frame_at kind n s ≡ Unit m → UnitTold kind n m s
+pub unit_told : (kind : Kind) (n m : ℕ) (s : List ℕ) → frame_at kind n s ≡ Ok (Unit m) → UnitTold kind n m s
 unit_told kind n m s e =
     let passed = unit_passed kind n s m e in
     subst (λ (k : ℕ). UnitTold kind n k s) passed.1 (unit_read kind n s passed.0)
 
 -- its ciphertext has the length that field 11 states
-pub unit_length_lem : (kind : Kind) (n m : ℕ) (s : List ℕ) → frame_at kind n s ≡ Unit m → field_length (after_header kind s) ≡ m
+pub unit_length_lem : (kind : Kind) (n m : ℕ) (s : List ℕ) → frame_at kind n s ≡ Ok (Unit m) → field_length (after_header kind s) ≡ m
 unit_length_lem kind n m s e = (unit_passed kind n s m e).1
 
 -- a close's fields, likewise
 module _ (kind : Kind) (wf : WellFormed kind) (n : ℕ) (x rest : List ℕ) where
   pub close_here : n < 256 ^ kind.number_bytes → length x ≡ 16
-      → (frame_at kind n (close_header kind n ++ (field 0x12 x ++ rest)) ≡ Close)
+      → (frame_at kind n (close_header kind n ++ (field 0x12 x ++ rest)) ≡ Ok Close)
       × (close_sealed kind (close_header kind n ++ (field 0x12 x ++ rest)) ≡ x)
       × (after_close kind (close_header kind n ++ (field 0x12 x ++ rest)) ≡ rest)
   unfolding close_header close_tests close_sealed after_close
@@ -381,14 +387,14 @@ module _ (kind : Kind) (wf : WellFormed kind) (n : ℕ) (x rest : List ℕ) wher
       let s = close_header kind n ++ r in
       let long : length b ≡ k = length_big_endian k n in
       let after : after_field k s ≡ r = after_at kind.close_tag k b r long in
-      let passed : close_tests kind n s ≡ Done =
+      let passed : close_tests kind n s ≡ (Ok tt) =
       unless_passes (has_field kind.close_tag k s && has_field 0x12 16 (after_field k s)) _ _
       ((and-eq-true_iff (has_field kind.close_tag k s) (has_field 0x12 16 (after_field k s))).1 (
         field_at kind.close_tag k b r long (omega (arith, wf.numbers_short)),
         ap (has_field 0x12 16) after ∙ field_at 0x12 16 x rest lx (omega arith),
       ))
       (unless_passes (eqb (frame_number kind s) n) _ _ (eq-eqb (frame_number kind s) n (close-number kind n r fits)) refl) in (
-        frame_close kind n s (close-begins kind n r) ∙ ap (λ (a : Answer). frame_of a Close) passed,
+        frame_close kind n s (close-begins kind n r) ∙ ap (λ (a : Answer). frame_of a (Ok Close)) passed,
         ap (field_value 16) after ∙ value_at 0x12 16 x rest lx,
         ap (after_field 16) after ∙ after_at 0x12 16 x rest lx,
       )
@@ -400,7 +406,7 @@ pub record CloseTold (kind : Kind) (n : ℕ) (s : List ℕ) : Type 0 where
   pub fits : Bytes s → n < 256 ^ kind.number_bytes
   pub written : Bytes s → s ≡ close_header kind n ++ (field 0x12 (close_sealed kind s) ++ after_close kind s)
 
-pub close_told : (kind : Kind) (n : ℕ) (s : List ℕ) → frame_at kind n s ≡ Close → CloseTold kind n s
+pub close_told : (kind : Kind) (n : ℕ) (s : List ℕ) → frame_at kind n s ≡ Ok Close → CloseTold kind n s
 unfolding close_header close_tests close_sealed after_close field_value
 close_told kind n s e =
     let k = kind.number_bytes in

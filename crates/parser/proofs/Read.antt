@@ -2,33 +2,23 @@
 use mathlib.Core.Path.{◌≡◌, sym, ap, ◌∙◌}
 use mathlib.Core.Bool.{Bool}
 use mathlib.Core.List.{List, [], ◌∷◌}
-use Prim.Native.Nat.{ℕ, ◌+◌, ◌-◌, ◌≤◌}
+use Prim.Native.Nat.{ℕ, ◌+◌, ◌≤◌}
 use native.Mathlib.Omega.{arith}
-use lib.ListN.{length, get_or, take, drop, length-take, length-drop}
-use lib.Seq.{length-take-le, take_all, take-take, take-add, drop_at, drop-drop}
-use Rattle.bits.specs.Bytes.{number_of}
+use lib.ListN.{length, get_or, take, drop, length-drop}
+use lib.Seq.{length-take-le, take-take, take-add, drop_at, drop-drop}
 use Rattle.bits.proofs.Lists.{part_at}
 use Rattle.fields.specs.Field.{has_field}
 use Rattle.fields.specs.Kind.{Kind}
 use Rattle.fields.specs.Unit.{details_length}
 use Rattle.kinds.specs.declared.Kind.{Kind as BookKind}
 use Rattle.kinds.specs.Kind.{kind_of}
-use Rattle.kinds.specs.Lengths.{header_length, close_header_length, codes_at}
+use Rattle.kinds.specs.Lengths.{header_length, codes_at}
 use Rattle.kinds.proofs.Formed.{two_letters}
-use Rattle.parser.specs.Frame.{frame_number, frame_details, frame_from, frame_to}
+use Rattle.parser.specs.Frame.{frame_details, frame_from, frame_to}
 
 -- a field that is looked for by a tag and a length
 pub field_is : {b : Bool} {tag tag' len len' : ℕ} (s : List ℕ) → b ≡ has_field tag len s → tag ≡ tag' → len ≡ len' → b ≡ has_field tag' len' s
 field_is s e t l = e ∙ (λ i. has_field (t i) (l i) s)
-
--- the number in a header or a close, of its bytes
-pub number_is : (kind : Kind) (s : List ℕ) (end : ℕ) → end ≡ close_header_length kind → kind.number_bytes ≤ 4
-    → number_of (take 8 (take (end - 3) (drop 3 s))) ≡ frame_number kind s
-unfolding frame_number
-number_is kind s end e h =
-    let k : end - 3 ≡ kind.number_bytes = omega arith in
-    ap (λ (n : ℕ). number_of (take 8 (take n (drop 3 s)))) k
-    ∙ ap number_of (take_all 8 (take kind.number_bytes (drop 3 s)) (rw length-take (omega arith)))
 
 -- the codes in a unit's header
 module _ (kind : Kind) (s : List ℕ) (long : header_length kind ≤ length s) where

@@ -1,9 +1,10 @@
 -- What stands at a place of a book: a unit's fields, a close's fields, or neither. A frame is the scope's unit or close as it stands there,
 -- its seal unopened. In each definition n is the running number and s the bytes of the book from the place on.
-use Rattle.std.specs.Prelude.{◌≡◌, Bool, ◌&&◌, cond, List, ◌++◌, ℕ, ◌+◌, ◌-◌, ◌^◌, min, eqb, leb, ltb, get_or, take, drop}
+use Rattle.suites.specs.Answer.{Answer}
+use Rattle.parser.specs.FrameAnswer.{FrameAnswer}
+use Rattle.parser.specs.declared.frame.Frame.TheVariants.{Close, Unit}
+use Rattle.std.specs.Prelude.{◌≡◌, Bool, ◌&&◌, cond, List, ◌++◌, ℕ, ◌+◌, ◌-◌, ◌^◌, min, eqb, leb, ltb, get_or, take, drop, Option, Some, None, Ok, Err}
 use Rattle.bits.specs.Bytes.{number_of}
-use Rattle.suites.specs.declared.refusal.Answer.{Answer}
-use Rattle.suites.specs.declared.refusal.Answer.TheVariants.{Done, Refused}
 use Rattle.suites.specs.declared.refusal.Refusal.TheVariants.{LanguagesNotAllowed, TooManyUnits, FieldMalformed, NumberOutOfOrder}
 use Rattle.limits.specs.Tests.{unless}
 use Rattle.fields.specs.Field.{field_length, has_field, field_value, after_field}
@@ -11,8 +12,6 @@ use Rattle.fields.specs.Kind.{Kind, WellFormed}
 use Rattle.fields.specs.Languages.{pair_allowed}
 use Rattle.fields.specs.Unit.{details_length}
 use Rattle.kinds.specs.Lengths.{header_bytes}
-use Rattle.parser.specs.declared.frame.Frame.{Frame}
-use Rattle.parser.specs.declared.frame.Frame.TheVariants.{Unit, Close, Refused as FrameRefused}
 
 -- "65,535 units already: 13", which "moves to the new limit, also for old books where it cannot occur": 16,777,215, in every book that is
 -- read. How many a book of a kind can have is the kind's own limit
@@ -67,36 +66,36 @@ unit_tests kind n s =
     (unless (eqb (frame_number kind s) n) NumberOutOfOrder
     (unless (pair_allowed (frame_from kind s) (frame_to kind s)) LanguagesNotAllowed
     (unless (has_sealed (after_header kind s)) FieldMalformed
-    Done))))
+    (Ok tt)))))
 
 -- "close: 14 of both its fields, 15"
 unfoldable pub close_tests : Kind → ℕ → List ℕ → Answer
 close_tests kind n s =
     unless (has_field kind.close_tag kind.number_bytes s && has_field 0x12 16 (after_field kind.number_bytes s)) FieldMalformed
     (unless (eqb (frame_number kind s) n) NumberOutOfOrder
-    Done)
+    (Ok tt))
 
 -- a frame whose tests are done, or the refusal
-abbrev pub frame_of : Answer → Frame → Frame
-frame_of Done frame = frame
-frame_of (Refused why) frame = FrameRefused why
+abbrev pub frame_of : Answer → FrameAnswer → FrameAnswer
+frame_of (Ok tt) frame = frame
+frame_of (Err why) frame = Err why
 
 -- the close's tag stands there
 unfoldable pub begins_close : Kind → List ℕ → Bool
 begins_close kind s = eqb (get_or s 0 0) kind.close_tag
 
 -- what begins with the close's tag is read as a close, anything else as a unit
-unfoldable pub frame_at : Kind → ℕ → List ℕ → Frame
+unfoldable pub frame_at : Kind → ℕ → List ℕ → FrameAnswer
 frame_at kind n s =
     cond (begins_close kind s)
-    (frame_of (close_tests kind n s) Close)
-    (frame_of (unit_tests kind n s) (Unit (field_length (after_header kind s))))
+    (frame_of (close_tests kind n s) (Ok Close))
+    (frame_of (unit_tests kind n s) (Ok (Unit (field_length (after_header kind s)))))
 
--- how many bytes the ciphertext of a unit has, of anything else 0
-abbrev pub ciphertext_length : Frame → ℕ
-ciphertext_length (Unit m) = m
-ciphertext_length Close = 0
-ciphertext_length (FrameRefused why) = 0
+-- how many bytes the ciphertext of a unit has; nothing else has one
+abbrev pub ciphertext_of : FrameAnswer → Option ℕ
+ciphertext_of (Ok (Unit m)) = Some m
+ciphertext_of (Ok Close) = None
+ciphertext_of (Err why) = None
 
 -- a kind that can be read: its limit is the reader's or the largest number that it has room for, whichever is smaller
 pub record Readable (kind : Kind) : Type 0 where

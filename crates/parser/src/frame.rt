@@ -1,35 +1,26 @@
 // What stands at a place of a book.
-ghost use Rattle.std.specs.Prelude.{◌≡◌, ◌≤◌, length};
-ghost use Rattle.suites.specs.declared.refusal.Answer.TheVariants.{Done};
-ghost use Rattle.suites.specs.declared.refusal.Refusal.TheVariants.{FieldMalformed};
-ghost use Rattle.limits.specs.Tests.{unless};
+ghost use Rattle.std.specs.Prelude.{◌≡◌, ◌≤◌, cond, length, Ok, Some, None};
 ghost use Rattle.fields.specs.Field.{field_length};
 ghost use Rattle.kinds.specs.Kind.{kind_of};
-ghost use Rattle.kinds.specs.Lengths.{header_length, close_header_length};
+ghost use Rattle.kinds.specs.Lengths.{header_length};
 ghost use Rattle.fields.specs.Languages.{pair_allowed};
-ghost use Rattle.parser.specs.Frame.{frame_number, frame_from, frame_to, after_header, has_sealed, unit_tests, close_tests, frame_of, frame_at, ciphertext_length};
+ghost use Rattle.parser.specs.Frame.{frame_number, frame_from, frame_to, after_header, has_sealed, unit_tests, close_tests, frame_of, frame_at, ciphertext_of};
 
 use kinds::Kind;
 use suites::refusal::Refusal;
 
-// A unit whose ciphertext has so many bytes, a close, or the refusal.
-#[derive(Clone, Copy)]
+// A unit whose ciphertext has so many bytes, or a close.
+#[derive(Clone, Copy, Debug, PartialEq, Eq)]
 pub enum Frame {
     Unit(usize),
     Close,
-    Refused(Refusal),
 }
 
-// The number that stands there.
-fn number_at(kind: Kind, s: &[u8]) -> u64
-    requires { close_header_length (kind_of kind) ≤ length s.now }
-    ensures { result ≡ frame_number (kind_of kind) s.now }
-{
-    let end = kind.close_header_len();
-    fields::number::of(&s[3..end])
-}
+// A frame is read by its kind, the running number, and what stands from there on: four functions take the three, each as it is lent, and a struct of
+// them would be built for each frame and taken apart at once.
 
-// The same where four bytes stand from there on, as in a whole header of any kind: a walk then takes the same time for each.
+// The number that stands there, of two bytes or four, where four stand from there on, as in a whole header of any kind, or in a close that its tag
+// follows: a walk then takes the same time for each kind (with a case for each it took 1.07 times that).
 fn header_number(kind: Kind, s: &[u8]) -> u64
     requires { 7 ≤ length s.now }
     ensures { result ≡ frame_number (kind_of kind) s.now }
@@ -72,92 +63,91 @@ fn is_pair(kind: Kind, s: &[u8]) -> bool
 
 // A close, where the running number is n. Refusals: 14, 15.
 #[tactic(auto, unfolding(crate::specs::Frame::close_tests), using(fields::proofs::Values::after_is))]
-fn close_at(kind: Kind, n: u64, s: &[u8]) -> Frame
-    ensures { result ≡ frame_of (close_tests (kind_of kind) n s.now) Frame.Close }
+fn close_at(kind: Kind, n: u64, s: &[u8]) -> Result<Frame, Refusal>
+    ensures { result ≡ frame_of (close_tests (kind_of kind) n s.now) (Ok Frame.Close) }
 {
     if !fields::field::has(kind.close_tag(), kind.number_bytes(), s) {
-        return Frame::Refused(Refusal::FieldMalformed);
+        return Err(Refusal::FieldMalformed);
     }
     let after = kind.close_header_len();
     if !fields::field::has(0x12, 16, &s[after..]) {
-        return Frame::Refused(Refusal::FieldMalformed);
+        return Err(Refusal::FieldMalformed);
     }
-    let count = number_at(kind, s);
+    let count = header_number(kind, s);
     if count != n {
-        return Frame::Refused(Refusal::NumberOutOfOrder);
+        return Err(Refusal::NumberOutOfOrder);
     }
-    Frame::Close
+    Ok(Frame::Close)
 }
 
-// The fields 11 and 12 of a unit. Refusal: 14.
-fn sealed_at(s: &[u8]) -> Frame
-    ensures { result ≡ frame_of (unless (has_sealed s.now) FieldMalformed Done) (Frame.Unit (field_length s.now)) }
+// How many bytes the ciphertext has, where fields 11 and 12 of a unit stand.
+fn sealed_len(s: &[u8]) -> Option<usize>
+    ensures { result ≡ cond (has_sealed s.now) (Some (field_length s.now)) None }
 {
     if s.len() < 3 {
-        return Frame::Refused(Refusal::FieldMalformed);
+        return None;
     }
     let m = fields::field::pair(s[1], s[2]);
     if !((3 <= m) & (m <= 8194)) {
-        return Frame::Refused(Refusal::FieldMalformed);
+        return None;
     }
     if !fields::field::has(0x11, m, s) {
-        return Frame::Refused(Refusal::FieldMalformed);
+        return None;
     }
     let end = 3 + m;
     if !fields::field::has(0x12, 16, &s[end..]) {
-        return Frame::Refused(Refusal::FieldMalformed);
+        return None;
     }
-    Frame::Unit(m)
+    Some(m)
 }
 
 // A unit, where the running number is n. Refusals: 14, 13, 15, 11, 14.
-fn unit_at(kind: Kind, n: u64, s: &[u8]) -> Frame
+fn unit_at(kind: Kind, n: u64, s: &[u8]) -> Result<Frame, Refusal>
     ensures { result ≡ frame_of (unit_tests (kind_of kind) n s.now)
-        (Frame.Unit (field_length (after_header (kind_of kind) s.now))) }
+        (Ok (Frame.Unit (field_length (after_header (kind_of kind) s.now)))) }
 {
     if !fields::field::has(kind.header_tag(), kind.header_bytes(), s) {
-        return Frame::Refused(Refusal::FieldMalformed);
+        return Err(Refusal::FieldMalformed);
     }
     if 16777215 <= n {
-        return Frame::Refused(Refusal::TooManyUnits);
-    }
-    if number_at(kind, s) != n {
-        return Frame::Refused(Refusal::NumberOutOfOrder);
-    }
-    if !is_pair(kind, s) {
-        return Frame::Refused(Refusal::LanguagesNotAllowed);
-    }
-    let end = kind.header_len();
-    sealed_at(&s[end..])
-}
-
-// How many bytes the ciphertext of the unit at the start of s has, where the running number is n; 0 where anything else stands there. It is for
-// the walk, which asks for nothing more, and is proved to agree with `at`.
-pub fn ciphertext_len(kind: Kind, n: u64, s: &[u8]) -> usize
-    ensures { result ≡ ciphertext_length (frame_at (kind_of kind) n s.now) }
-{
-    if !fields::field::has(kind.header_tag(), kind.header_bytes(), s) {
-        return 0;
-    }
-    if 16777215 <= n {
-        return 0;
+        return Err(Refusal::TooManyUnits);
     }
     if header_number(kind, s) != n {
-        return 0;
+        return Err(Refusal::NumberOutOfOrder);
     }
     if !is_pair(kind, s) {
-        return 0;
+        return Err(Refusal::LanguagesNotAllowed);
     }
     let end = kind.header_len();
-    match sealed_at(&s[end..]) {
-        Frame::Unit(m) => m,
-        Frame::Close => 0,
-        Frame::Refused(why) => 0,
+    match sealed_len(&s[end..]) {
+        Some(m) => Ok(Frame::Unit(m)),
+        None => Err(Refusal::FieldMalformed),
     }
+}
+
+// How many bytes the ciphertext of the unit at the start of s has, where the running number is n; None where anything else stands there. It is
+// for the walk, which asks for nothing more, and is proved to agree with `at`.
+pub fn ciphertext_len(kind: Kind, n: u64, s: &[u8]) -> Option<usize>
+    ensures { result ≡ ciphertext_of (frame_at (kind_of kind) n s.now) }
+{
+    if !fields::field::has(kind.header_tag(), kind.header_bytes(), s) {
+        return None;
+    }
+    if 16777215 <= n {
+        return None;
+    }
+    if header_number(kind, s) != n {
+        return None;
+    }
+    if !is_pair(kind, s) {
+        return None;
+    }
+    let end = kind.header_len();
+    sealed_len(&s[end..])
 }
 
 // The frame at the start of s, where the running number is n. Refusals: of a unit 14, 13, 15, 11, 14; of a close 14, 15.
-pub fn at(kind: Kind, n: u64, s: &[u8]) -> Frame
+pub fn at(kind: Kind, n: u64, s: &[u8]) -> Result<Frame, Refusal>
     ensures { result ≡ frame_at (kind_of kind) n s.now }
 {
     if opening_fields::byte_at(s, 0) == kind.close_tag() {

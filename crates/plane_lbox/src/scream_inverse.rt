@@ -4,26 +4,30 @@ ghost use Rattle.planes.specs.Planes.{Shaped, Goes};
 ghost use Rattle.lbox.specs.Lbox;
 ghost use Rattle.plane_lbox.specs.Network.{times_at};
 
+use crate::each_row;
+
 // The matrix times the rows of all 64 states, which these sixteen planes hold.
 pub fn network(r: [u64; 16]) -> [u64; 16]
     ensures { result ≡ times_at 64 Lbox.scream_inverse r }
 {
-    let x0 = r[0];
-    let x1 = r[1];
-    let x2 = r[2];
-    let x3 = r[3];
-    let x4 = r[4];
-    let x5 = r[5];
-    let x6 = r[6];
-    let x7 = r[7];
-    let x8 = r[8];
-    let x9 = r[9];
-    let x10 = r[10];
-    let x11 = r[11];
-    let x12 = r[12];
-    let x13 = r[13];
-    let x14 = r[14];
-    let x15 = r[15];
+    let [
+        x0,
+        x1,
+        x2,
+        x3,
+        x4,
+        x5,
+        x6,
+        x7,
+        x8,
+        x9,
+        x10,
+        x11,
+        x12,
+        x13,
+        x14,
+        x15,
+    ] = r;
     let a0 = x5 ^ x9;
     let a1 = x12 ^ x13;
     let a2 = a0 ^ x7;
@@ -88,11 +92,5 @@ pub fn layer(x: &mut [[u64; 16]; 8])
     requires { Shaped x.old }
     ensures { Goes (λ b. Lbox.layer Lbox.scream_inverse) x.old x.new }
 {
-    let mut i: usize = 0;
-    while i < 8 {
-        let r = x[i];
-        let y = network(r);
-        x[i] = y;
-        i += 1;
-    }
+    each_row(x, network);
 }

@@ -3,55 +3,13 @@ ghost use Rattle.std.specs.Prelude.{◌≡◌};
 ghost use Rattle.sbox.specs.Sbox;
 ghost use Rattle.planes.specs.Planes.{Shaped, Goes};
 
+use crate::each_column;
+
 // The S-box on sixty-four columns, one of each state.
 pub fn sbox(w: [u64; 8]) -> [u64; 8]
     ensures { result ≡ Sbox.layer_at 64 Sbox.scream w }
 {
-    let mut w0 = w[0];
-    let mut w1 = w[1];
-    let mut w2 = w[2];
-    let mut w3 = w[3];
-    let mut w4 = w[4];
-    let mut w5 = w[5];
-    let mut w6 = w[6];
-    let mut w7 = w[7];
-    // First 5-bit S-box
-    w2 = w2 ^ (w0 & w1);
-    w1 = w1 ^ w2;
-    w3 = w3 ^ (w0 & w4);
-    w2 = w2 ^ w3;
-    w0 = w0 ^ (w3 & w1);
-    w4 = w4 ^ w1;
-    w1 = w1 ^ (w2 & w4);
-    w1 = w1 ^ w0;
-    // Extend-Xor
-    w0 = w0 ^ w5;
-    w1 = w1 ^ w6;
-    w2 = w2 ^ w7;
-    // Constant
-    w3 = !w3;
-    w4 = !w4;
-    // First 3-bit S-box
-    let t5 = w5;
-    let t6 = w6;
-    let t7 = w7;
-    w5 = w5 ^ (!t6 & t7);
-    w6 = w6 ^ (!t7 & t5);
-    w7 = w7 ^ (!t5 & t6);
-    // Truncate-Xor
-    w5 = w0 ^ w5;
-    w6 = w1 ^ w6;
-    w7 = w2 ^ w7;
-    // Second 5-bit S-box
-    w2 = w2 ^ (w0 & w1);
-    w1 = w1 ^ w2;
-    w3 = w3 ^ (w0 & w4);
-    w2 = w2 ^ w3;
-    w0 = w0 ^ (w3 & w1);
-    w4 = w4 ^ w1;
-    w1 = w1 ^ (w2 & w4);
-    w1 = w1 ^ w0;
-    [w0, w1, w2, w3, w4, w5, w6, w7]
+    sbox::scream::circuit(w)
 }
 
 // The S-box on all sixteen columns of each state.
@@ -59,10 +17,5 @@ pub fn layer(x: &mut [[u64; 16]; 8])
     requires { Shaped x.old }
     ensures { Goes (λ b. Sbox.layer Sbox.scream) x.old x.new }
 {
-    let mut j = 0;
-    while j < 16 {
-        let y = sbox(planes::columns::column(x, j));
-        planes::columns::put_column(x, j, y);
-        j += 1;
-    }
+    each_column(x, sbox);
 }

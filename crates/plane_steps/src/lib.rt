@@ -4,28 +4,28 @@
 ghost use Rattle.std.specs.Prelude.{cond, ◌≤◌, ◌<◌};
 ghost use Rattle.lbox.specs.Lbox;
 ghost use Rattle.sbox.specs.Sbox;
-ghost use Rattle.planes.specs.Planes.{Shaped, Goes, lane};
+ghost use Rattle.planes.specs.Planes.{Shaped, Goes};
 ghost use Rattle.rounds.specs.Cipher.{parts};
 ghost use Rattle.state.specs.Rows.{add_rows};
 ghost use Rattle.turns.specs.Turns.{round_by, two_rounds, turns};
-ghost use Rattle.plane_steps.specs.Picked.{held, tweakeys_of};
+ghost use Rattle.plane_steps.specs.Picked.{tweakeys_of};
 
 use rounds::Cipher;
+
+// `ahead` stays a bool: it is handed through as the Bool of the definitions that cipher's contracts cite. A type parameter on each of these functions
+// would say no more, and compile the rounds of sixty-four states twice.
+
+// The two layers stay two functions: a match each over boxes of their own, of another crate each; one function would be given all six.
 
 // The S-box layer of a cipher, enciphering or deciphering.
 fn sbox_layer(ahead: bool, k: Cipher, x: &mut [[u64; 16]; 8])
     requires { Shaped x.old }
     ensures { Goes (λ b. Sbox.layer (cond ahead (parts k).sbox (parts k).sbox_inverse)) x.old x.new }
 {
-    match k {
-        Cipher::Scream => {
-            if ahead {
-                plane_sbox::scream::layer(x);
-            } else {
-                plane_sbox::scream_inverse::layer(x);
-            }
-        }
-        Cipher::IScream => plane_sbox::iscream::layer(x),
+    match (k, ahead) {
+        (Cipher::Scream, true) => plane_sbox::scream::layer(x),
+        (Cipher::Scream, false) => plane_sbox::scream_inverse::layer(x),
+        (Cipher::IScream, _) => plane_sbox::iscream::layer(x),
     }
 }
 
@@ -34,15 +34,10 @@ fn lbox_layer(ahead: bool, k: Cipher, x: &mut [[u64; 16]; 8])
     requires { Shaped x.old }
     ensures { Goes (λ b. Lbox.layer (cond ahead (parts k).lbox (parts k).lbox_inverse)) x.old x.new }
 {
-    match k {
-        Cipher::Scream => {
-            if ahead {
-                plane_lbox::scream::layer(x);
-            } else {
-                plane_lbox::scream_inverse::layer(x);
-            }
-        }
-        Cipher::IScream => plane_lbox::iscream::layer(x),
+    match (k, ahead) {
+        (Cipher::Scream, true) => plane_lbox::scream::layer(x),
+        (Cipher::Scream, false) => plane_lbox::scream_inverse::layer(x),
+        (Cipher::IScream, _) => plane_lbox::iscream::layer(x),
     }
 }
 
@@ -79,78 +74,31 @@ fn two_rounds(ahead: bool, k: Cipher, x: &mut [[u64; 16]; 8], s: usize)
     }
 }
 
-// The n-th of three added, from 0; from 2 on the third.
-fn add_held<'a>(
-    x: &mut [[u64; 16]; 8],
-    t: &'a [[u64; 16]; 8],
-    u: &'a [[u64; 16]; 8],
-    v: &'a [[u64; 16]; 8],
-    n: usize,
-)
-    requires { Shaped x.old
-        × Shaped t.now
-        × Shaped u.now
-        × Shaped v.now }
-    ensures { Goes (λ b w. add_rows w (lane (held t.now u.now v.now n) b))
-        x.old x.new }
-{
-    if n == 0 {
-        plane_tweakeys::sums::add(x, t);
-        return;
-    }
-    if n == 1 {
-        plane_tweakeys::sums::add(x, u);
-        return;
-    }
-    plane_tweakeys::sums::add(x, v);
-}
-
-// The tweakeys of step s added.
-fn add_tweakey<'a>(
-    k: Cipher,
-    x: &mut [[u64; 16]; 8],
-    t: &'a [[u64; 16]; 8],
-    u: &'a [[u64; 16]; 8],
-    v: &'a [[u64; 16]; 8],
-    s: usize,
-)
-    requires { Shaped x.old
-        × Shaped t.now
-        × Shaped u.now
-        × Shaped v.now }
-    ensures { Goes (λ b w. add_rows w (tweakeys_of k t.now u.now v.now b s))
-        x.old x.new }
+// The tweakeys of step s added, of three, or of the first two, in turn.
+fn add_tweakey(k: Cipher, x: &mut [[u64; 16]; 8], tweakeys: &[[[u64; 16]; 8]; 3], s: usize)
+    ensures { Goes (λ b w. add_rows w (tweakeys_of k tweakeys.now b s)) x.old x.new }
 {
     match k {
-        Cipher::Scream => add_held(x, t, u, v, s % 3),
-        Cipher::IScream => add_held(x, t, u, v, s % 2),
+        Cipher::Scream => plane_tweakeys::sums::add(x, &tweakeys[s % 3]),
+        Cipher::IScream => plane_tweakeys::sums::add(x, &tweakeys[s % 2]),
     }
 }
 
 // A tweakey added, and n turns: all the steps, or all of them undone.
-pub fn turns<'a>(
+pub fn turns(
     ahead: bool,
     k: Cipher,
     n: usize,
     x: &mut [[u64; 16]; 8],
-    t: &'a [[u64; 16]; 8],
-    u: &'a [[u64; 16]; 8],
-    v: &'a [[u64; 16]; 8],
+    tweakeys: &[[[u64; 16]; 8]; 3],
 )
-    requires { (n ≤ 14)
-        × Shaped x.old
-        × Shaped t.now
-        × Shaped u.now
-        × Shaped v.now }
-    ensures { Goes (λ b. turns ahead (parts k) (tweakeys_of k t.now u.now v.now b) n n)
-        x.old x.new }
+    requires { n ≤ 14 }
+    ensures { Goes (λ b. turns ahead (parts k) (tweakeys_of k tweakeys.now b) n n) x.old x.new }
 {
-    add_tweakey(k, x, t, u, v, turns::key_before(ahead, n));
-    let mut i: usize = 0;
-    while i < n {
+    add_tweakey(k, x, tweakeys, turns::key_before(ahead, n));
+    for i in 0..n {
         let s = turns::step_at(ahead, n, i);
         two_rounds(ahead, k, x, s);
-        add_tweakey(k, x, t, u, v, turns::key_behind(ahead, s));
-        i += 1;
+        add_tweakey(k, x, tweakeys, turns::key_behind(ahead, s));
     }
 }

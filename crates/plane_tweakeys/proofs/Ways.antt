@@ -2,6 +2,7 @@
 use mathlib.Core.Path.{◌≡◌, refl, sym, ap, subst, ◌∙◌}
 use mathlib.Core.List.{List, [], ◌∷◌, ◌++◌}
 use Prim.Native.Nat.{ℕ, zero, suc, ◌+◌, ◌^◌, ◌<◌}
+use native.Mathlib.Decide.{ℕ_discrete}
 use native.Mathlib.Omega.{arith}
 use lib.Bits.{bit_xor, xor_comm}
 use lib.ListN.{length, get_or, set, length-set}
@@ -11,7 +12,6 @@ use Rattle.bits.proofs.Bits.{xor_twice}
 use Rattle.bits.proofs.Elements.{tab_long, tab_at, tab_of}
 use Rattle.bits.proofs.Lists.{get_or_tab, tab_ext, tab_get_or}
 use Rattle.planes.specs.Planes.{row_at, lane, Shaped, Goes}
-use Rattle.planes.proofs.Goes.{goes_then}
 use Rattle.state.specs.Rows.{add_rows}
 use Rattle.rounds.specs.Cipher.{add_constant}
 use Rattle.rounds.specs.Tweakey.{φ, rotated, rotated_row}
@@ -93,50 +93,102 @@ spread_shared w l f e =
       lanes = λ b hb. tab-lane (λ i. spread (get_or w i 0)) b (λ i. get_or w i 0) (λ i h. spread_row (get_or w i 0) (f i) b hb) ∙ tab_get_or 8 w l;
     })
 
--- φ on each state
-abbrev pub phi_of : List (List ℕ) → List (List ℕ)
-phi_of t = tab 4 (λ i. add_planes (get_or t i []) (get_or t (i + 4) [])) ++ tab 4 (λ i. get_or t i [])
+-- eight rows, of which the first k of each half are given
+pub record Halves (f g : ℕ → List ℕ) (k : ℕ) (y : List (List ℕ)) : Type 0 where
+  pub long : length y ≡ 8
+  pub first : (i : ℕ) → i < k → get_or y i [] ≡ f i
+  pub second : (i : ℕ) → i < k → get_or y (i + 4) [] ≡ g i
 
-pub phi_goes : {t y : List (List ℕ)} → Shaped t → y ≡ phi_of t → Goes (λ b. φ) t y
-unfolding add_planes lane φ
-phi_goes {t} s e =
-    rw e
-    (record {
-      shape = record { long = refl; wide = wide };
-      lanes = λ b hb. cc (sum 0 b, sum 1 b, sum 2 b, sum 3 b);
-    })
+pub halves_none : (f g : ℕ → List ℕ) (y : List (List ℕ)) → length y ≡ 8 → Halves f g 0 y
+halves_none f g y e = record { long = e; first = λ i h. absurd (omega arith); second = λ i h. absurd (omega arith) }
+
+pub halves_more : {f g : ℕ → List ℕ} {k : ℕ} {y : List (List ℕ)} → Halves f g k y → k < 4 → (r s : List ℕ) → r ≡ f k → s ≡ g k
+    → Halves f g (k + 1) (set (set y k r) (k + 4) s)
+halves_more {f} {g} {k} {y} h hk r s er es =
+    record {
+      long = length-set (set y k r) (k + 4) s ∙ length-set y k r ∙ h.long;
+      first = λ i hi. get_or-set_other (set y k r) (k + 4) i s [] (λ q. omega arith) ∙ one i hi (ℕ_discrete i k);
+      second = λ i hi. two i hi (ℕ_discrete i k);
+    }
   where
-    sum : (i b : ℕ) → row_at (add_planes (get_or t i []) (get_or t (i + 4) [])) b ≡ bit_xor (row_at (get_or t i []) b) (row_at (get_or t (i + 4) []) b)
-    sum i b = added_row (get_or t i []) (get_or t (i + 4) []) b
+    one : (i : ℕ) → i < k + 1 → Dec (i ≡ k) → get_or (set y k r) i [] ≡ f i
+    one i hi (yes q) = rw q (get_or-set_same y k r [] (rw h.long (omega arith)) ∙ er)
+    one i hi (no d) = get_or-set_other y k i r [] d ∙ h.first i (omega arith)
 
-    wide : (i : ℕ) → i < 8 → length (get_or (phi_of t) i []) ≡ 16
-    wide zero h = refl
-    wide (suc zero) h = refl
-    wide (suc (suc zero)) h = refl
-    wide (suc (suc (suc zero))) h = refl
-    wide (suc (suc (suc (suc i)))) h = ap length (tab_at [] 4 (λ i. get_or t i []) i (omega arith)) ∙ s.wide i (omega arith)
+    two : (i : ℕ) → i < k + 1 → Dec (i ≡ k) → get_or (set (set y k r) (k + 4) s) (i + 4) [] ≡ g i
+    two i hi (yes q) = rw q (get_or-set_same (set y k r) (k + 4) s [] (rw (length-set y k r ∙ h.long) (omega arith)) ∙ es)
+    two i hi (no d) =
+        get_or-set_other (set y k r) (k + 4) (i + 4) s [] (λ q. d (omega arith))
+        ∙ get_or-set_other y k (i + 4) r [] (λ q. omega arith)
+        ∙ h.second i (omega arith)
+
+pub halves_all : {f g : ℕ → List ℕ} {y : List (List ℕ)} → Halves f g 4 y → y ≡ tab 4 f ++ tab 4 g
+halves_all {f} {g} {y} h =
+    sym (tab_of [] 8 y h.long)
+    ∙ cc (
+      h.first 0 (omega arith),
+      h.first 1 (omega arith),
+      h.first 2 (omega arith),
+      h.first 3 (omega arith),
+      h.second 0 (omega arith),
+      h.second 1 (omega arith),
+      h.second 2 (omega arith),
+      h.second 3 (omega arith),
+    )
+
+halves-shaped : (f g : ℕ → List ℕ) → ((i : ℕ) → length (f i) ≡ 16) → ((i : ℕ) → length (g i) ≡ 16) → Shaped (tab 4 f ++ tab 4 g)
+halves-shaped f g l m = record { long = refl; wide = wide }
+  where
+    wide : (i : ℕ) → i < 8 → length (get_or (tab 4 f ++ tab 4 g) i []) ≡ 16
+    wide zero h = l 0
+    wide (suc zero) h = l 1
+    wide (suc (suc zero)) h = l 2
+    wide (suc (suc (suc zero))) h = l 3
+    wide (suc (suc (suc (suc i)))) h = ap length (tab_at [] 4 g i (omega arith)) ∙ m i
+
+-- row i of state b
+row : List (List ℕ) → ℕ → ℕ → ℕ
+row x i b = row_at (get_or x i []) b
 
 -- φ, and t's states added
-pub phi_added_goes : (t : List (List ℕ)) {x y : List (List ℕ)} → Shaped x
-    → y ≡ tab 8 (λ i. add_planes (get_or (phi_of x) i []) (get_or t i [])) → Goes (λ b w. add_rows (φ w) (lane t b)) x y
-phi_added_goes t s e = goes_then (phi_goes s refl) (added_goes t e)
-
--- φ twice, and t's states added
-pub phi_phi_added_goes : (t : List (List ℕ)) {x y : List (List ℕ)} → Shaped x
-    → y ≡ tab 4 (λ i. add_planes (get_or x (i + 4) []) (get_or t i []))
-    ++ tab 4 (λ i. add_planes (add_planes (get_or x i []) (get_or x (i + 4) [])) (get_or t (i + 4) []))
-    → Goes (λ b w. add_rows (φ (φ w)) (lane t b)) x y
-unfolding add_planes lane φ add_rows
-phi_phi_added_goes t {x} s e =
+pub phi_added_goes : (t : List (List ℕ)) {x y : List (List ℕ)}
+    → y ≡ tab 4 (λ i. add_planes (add_planes (get_or x i []) (get_or x (i + 4) [])) (get_or t i []))
+    ++ tab 4 (λ i. add_planes (get_or x i []) (get_or t (i + 4) []))
+    → Goes (λ b w. add_rows (φ w) (lane t b)) x y
+unfolding add_planes lane φ add_rows row
+phi_added_goes t {x} e =
     rw e
     (record {
-      shape = record { long = refl; wide = wide };
+      shape =
+          halves-shaped (λ i. add_planes (add_planes (get_or x i []) (get_or x (i + 4) [])) (get_or t i []))
+          (λ i. add_planes (get_or x i []) (get_or t (i + 4) [])) (λ i. refl) (λ i. refl);
       lanes = λ b hb. λ k. first 0 b k ∷ first 1 b k ∷ first 2 b k ∷ first 3 b k ∷ second 0 b k ∷ second 1 b k ∷ second 2 b k ∷ second 3 b k ∷ [];
     })
   where
-    row : List (List ℕ) → ℕ → ℕ → ℕ
-    row x i b = row_at (get_or x i []) b
+    first : (i b : ℕ) → row_at (add_planes (add_planes (get_or x i []) (get_or x (i + 4) [])) (get_or t i [])) b
+        ≡ bit_xor (bit_xor (row x i b) (row x (i + 4) b)) (row t i b)
+    first i b =
+        added_row (add_planes (get_or x i []) (get_or x (i + 4) [])) (get_or t i []) b
+        ∙ ap (λ (n : ℕ). bit_xor n (row t i b)) (added_row (get_or x i []) (get_or x (i + 4) []) b)
 
+    second : (i b : ℕ) → row_at (add_planes (get_or x i []) (get_or t (i + 4) [])) b ≡ bit_xor (row x i b) (row t (i + 4) b)
+    second i b = added_row (get_or x i []) (get_or t (i + 4) []) b
+
+-- φ twice, and t's states added
+pub phi_phi_added_goes : (t : List (List ℕ)) {x y : List (List ℕ)}
+    → y ≡ tab 4 (λ i. add_planes (get_or x (i + 4) []) (get_or t i []))
+    ++ tab 4 (λ i. add_planes (add_planes (get_or x i []) (get_or x (i + 4) [])) (get_or t (i + 4) []))
+    → Goes (λ b w. add_rows (φ (φ w)) (lane t b)) x y
+unfolding add_planes lane φ add_rows row
+phi_phi_added_goes t {x} e =
+    rw e
+    (record {
+      shape =
+          halves-shaped (λ i. add_planes (get_or x (i + 4) []) (get_or t i []))
+          (λ i. add_planes (add_planes (get_or x i []) (get_or x (i + 4) [])) (get_or t (i + 4) [])) (λ i. refl) (λ i. refl);
+      lanes = λ b hb. λ k. first 0 b k ∷ first 1 b k ∷ first 2 b k ∷ first 3 b k ∷ second 0 b k ∷ second 1 b k ∷ second 2 b k ∷ second 3 b k ∷ [];
+    })
+  where
     first : (i b : ℕ) → row_at (add_planes (get_or x (i + 4) []) (get_or t i [])) b
         ≡ bit_xor (bit_xor (bit_xor (row x i b) (row x (i + 4) b)) (row x i b)) (row t i b)
     first i b =
@@ -148,16 +200,6 @@ phi_phi_added_goes t {x} s e =
     second i b =
         added_row (add_planes (get_or x i []) (get_or x (i + 4) [])) (get_or t (i + 4) []) b
         ∙ ap (λ (n : ℕ). bit_xor n (row t (i + 4) b)) (added_row (get_or x i []) (get_or x (i + 4) []) b)
-
-    wide : (i : ℕ) → i < 8
-        → length (get_or (tab 4 (λ i. add_planes (get_or x (i + 4) []) (get_or t i []))
-        ++ tab 4 (λ i. add_planes (add_planes (get_or x i []) (get_or x (i + 4) [])) (get_or t (i + 4) []))) i []) ≡ 16
-    wide zero h = refl
-    wide (suc zero) h = refl
-    wide (suc (suc zero)) h = refl
-    wide (suc (suc (suc zero))) h = refl
-    wide (suc (suc (suc (suc i)))) h =
-        ap length (tab_at [] 4 (λ i. add_planes (add_planes (get_or x i []) (get_or x (i + 4) [])) (get_or t (i + 4) [])) i (omega arith))
 
 -- each row of each state rotated
 pub rotated_goes : {t y : List (List ℕ)} → y ≡ tab 8 (λ i. rotated_planes (get_or t i [])) → Goes (λ b. rotated) t y

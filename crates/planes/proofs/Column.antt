@@ -1,31 +1,13 @@
--- Columns of the planes: the eight stores that put one, what stands in the planes after it, and the bits of a state in them.
-use mathlib.Core.Path.{◌≡◌, refl, ap, subst, ◌∙◌}
-use mathlib.Core.List.{List, [], ◌∷◌}
-use Prim.Native.Nat.{ℕ, zero, suc, ◌<◌}
+-- Columns of the planes: what stands in the planes after one is put, and the bits of a state in them.
+use mathlib.Core.Path.{◌≡◌, ap, ◌∙◌}
+use mathlib.Core.List.{List, []}
+use Prim.Native.Nat.{ℕ, ◌<◌}
 use lib.ListN.{length, get_or, set, length-set}
 use lib.Seq.{get_or-set_same, get_or-set_other}
 use Rattle.bits.specs.Bit.{bit}
 use Rattle.bits.proofs.Bits.{bit_lt, bit_gather}
-use Rattle.bits.proofs.Elements.{tab_long, tab_at, tab_of}
+use Rattle.bits.proofs.Elements.{tab_long, tab_at}
 use Rattle.planes.specs.Planes.{row_at, lane, Shaped, with_column}
-
--- y stored into column j of the rows 0 to n - 1, one after the other
-abbrev pub stores : ℕ → List (List ℕ) → ℕ → List ℕ → List (List ℕ)
-stores zero x j y = x
-stores (suc n) x j y = set (stores n x j y) n (set (get_or (stores n x j y) n []) j (get_or y n 0))
-
--- the eight stores put the column
-pub stores_put : (x : List (List ℕ)) → length x ≡ 8 → (j : ℕ) (y : List ℕ) → stores 8 x j y ≡ with_column x j y
-unfolding with_column
-stores_put x e j y = subst (λ (z : List (List ℕ)). stores 8 z j y ≡ with_column z j y) (tab_of [] 8 x e) refl
-
--- eight rows stored
-pub eight_stores : (y : List (List ℕ)) → length y ≡ 8 → (a b c d e f g h : List ℕ)
-    → set (set (set (set (set (set (set (set y 0 a) 1 b) 2 c) 3 d) 4 e) 5 f) 6 g) 7 h ≡ a ∷ b ∷ c ∷ d ∷ e ∷ f ∷ g ∷ h ∷ []
-eight_stores y l a b c d e f g h =
-    subst
-    (λ (z : List (List ℕ)). set (set (set (set (set (set (set (set z 0 a) 1 b) 2 c) 3 d) 4 e) 5 f) 6 g) 7 h ≡ a ∷ b ∷ c ∷ d ∷ e ∷ f ∷ g ∷ h ∷ [])
-    (tab_of [] 8 y l) refl
 
 module _ (x : List (List ℕ)) (j : ℕ) (y : List ℕ) where
   put-row : (i : ℕ) → i < 8 → get_or (with_column x j y) i [] ≡ set (get_or x i []) j (get_or y i 0)

@@ -15,16 +15,6 @@ use Rattle.transposition.specs.Levels.{word_at, turned}
 use Rattle.planes.specs.Loaded.{row_from, digit, Four, Fours, Loaded, rows_in}
 use Rattle.planes.proofs.Turned.{turned_shaped, lane_turned}
 
--- P of each number below k
-abbrev pub Each : ℕ → (ℕ → Type 0) → Type 0
-Each zero P = Unit
-Each (suc k) P = P 0 × Each k (λ i. P (suc i))
-
-pub each_at : (k : ℕ) (P : ℕ → Type 0) → Each k P → (i : ℕ) → i < k → P i
-each_at zero P e i h = absurd (omega arith)
-each_at (suc k) P e zero h = e.0
-each_at (suc k) P e (suc i) h = each_at k (λ i. P (suc i)) e.1 i (omega arith)
-
 -- the q-th row of a word
 four_digit : {s : List ℕ} {at w : ℕ} → Four s at w → (q : ℕ) → q < 4 → digit w q ≡ row_from s (at + 2 * q)
 four_digit {s} {at} u zero h = rw (add-zero at) u.first
@@ -65,10 +55,25 @@ fours_more {s} {at} {k} {r} f h w e = record { long = length-set r k w ∙ f.lon
 abbrev pub place_of : ℕ → ℕ → ℕ
 place_of at i = at + (256 * (i % 4) + 8 * (i / 4))
 
+-- the first k rows are read
+pub record Read (s : List ℕ) (at k : ℕ) (x : List (List ℕ)) : Type 0 where
+  pub long : length x ≡ 8
+  pub rows : (i : ℕ) → i < k → Fours s (place_of at i) 16 (get_or x i [])
+
+pub read_none : (s : List ℕ) (at : ℕ) (x : List (List ℕ)) → length x ≡ 8 → Read s at 0 x
+read_none s at x e = record { long = e; rows = λ i h. absurd (omega arith) }
+
+pub read_more : {s : List ℕ} {at k : ℕ} {x : List (List ℕ)} → Read s at k x → k < 8 → (r : List ℕ) → Fours s (place_of at k) 16 r → Read s at (k + 1) (set x k r)
+read_more {s} {at} {k} {x} f h r e = record { long = length-set x k r ∙ f.long; rows = λ i hi. row i hi (ℕ_discrete i k) }
+  where
+    row : (i : ℕ) → i < k + 1 → Dec (i ≡ k) → Fours s (place_of at i) 16 (get_or (set x k r) i [])
+    row i hi (yes q) = rw q (rw (get_or-set_same x k r [] (rw f.long h)) e)
+    row i hi (no n) = rw (get_or-set_other x k i r [] n) (f.rows i (omega arith))
+
 place_of_lem : (at b i : ℕ) → at + (256 * (b / 16) + 8 * (i / 4)) + 16 * (b % 16) + 2 * (i % 4) ≡ at + 16 * b + 2 * i
 place_of_lem at b i = omega arith
 
-module _ (s : List ℕ) (at : ℕ) (x : List (List ℕ)) (r : (i : ℕ) → i < 8 → Fours s (place_of at i) 16 (get_or x i [])) (room : at + 1024 ≤ length s) where
+module _ (s : List ℕ) (at : ℕ) (x : List (List ℕ)) (r : Read s at 8 x) (room : at + 1024 ≤ length s) where
   rows-read : (b : ℕ) → b < 64 → rows_in x b ≡ rows (take 16 (drop (at + 16 * b) s))
   unfolding rows_in
   rows-read b h =
@@ -93,7 +98,7 @@ module _ (s : List ℕ) (at : ℕ) (x : List (List ℕ)) (r : (i : ℕ) → i < 
           let place : place_of at (n / 16) + 16 * (n % 16) + 2 * (i % 4) ≡ at + 16 * b + 2 * i =
           (λ z. at + (256 * sixteens z + 8 * halves z) + 16 * left z + 2 * (i % 4)) ∙ place_of_lem at b i in
           let next : at + 16 * b + 2 * i + 1 ≡ at + 16 * b + (2 * i + 1) = omega arith in
-          four_digit ((r (n / 16) (omega arith)).fours (n % 16) (mod-lt n (lit< tt))) (i % 4) (mod-lt i (lit< tt))
+          four_digit ((r.rows (n / 16) (omega arith)).fours (n % 16) (mod-lt n (lit< tt))) (i % 4) (mod-lt i (lit< tt))
           ∙ ap (row_from s) place
           ∙ ap (λ (p : ℕ). get_or s (at + 16 * b + 2 * i) 0 + get_or s p 0 * 256) next
           ∙ sym (λ j. byte (2 * i) (omega arith) j + byte (2 * i + 1) (omega arith) j * 256)

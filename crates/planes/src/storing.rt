@@ -6,14 +6,13 @@ ghost use Rattle.state.specs.Block.{bytes};
 ghost use Rattle.state.specs.State.{rows_of};
 ghost use Rattle.transposition.specs.Levels.{turned};
 ghost use Rattle.planes.specs.Loaded.{rows_in};
-ghost use Rattle.planes.specs.Planes.{Shaped, lane};
+ghost use Rattle.planes.specs.Planes.{lane};
 
 use state::State;
 
 // State b, of planes that are turned.
-fn state_in<'a>(y: &'a [[u64; 16]; 8], b: usize) -> State
-    requires { Shaped y.now
-        × (b < 64) }
+fn state_in(y: &[[u64; 16]; 8], b: usize) -> State
+    requires { b < 64 }
     ensures { rows_of result ≡ rows_in y.now b }
 {
     let q = b / 16;
@@ -25,22 +24,18 @@ fn state_in<'a>(y: &'a [[u64; 16]; 8], b: usize) -> State
 }
 
 // All states, of planes that are turned, put at a place of a slice.
-fn put<'a>(y: &'a [[u64; 16]; 8], d: &mut [u8], at: usize)
-    requires { Shaped y.now
-        × (at + 1024 ≤ length d.old) }
+fn put(y: &[[u64; 16]; 8], d: &mut [u8], at: usize)
+    requires { at + 1024 ≤ length d.old }
     ensures { d.new ≡ paste d.old at (strung 64 (λ b. bytes (rows_in y.now b))) 1024 }
 {
-    let mut b: usize = 0;
-    while b < 64 {
+    for b in 0..64 {
         blockwise::put_at(d, at + 16 * b, state::store(state_in(y, b)));
-        b += 1;
     }
 }
 
 // The 64 states put as blocks at a place of a slice. The planes are turned in their place.
 pub fn store(x: &mut [[u64; 16]; 8], d: &mut [u8], at: usize)
-    requires { Shaped x.old
-        × (at + 1024 ≤ length d.old) }
+    requires { at + 1024 ≤ length d.old }
     ensures { (x.new ≡ turned x.old)
         × (d.new ≡ paste d.old at (strung 64 (λ b. bytes (lane x.old b))) 1024) }
 {

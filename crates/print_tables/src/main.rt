@@ -4,15 +4,12 @@
 use std::io;
 
 fn main(rt: HostRuntime) -> io::Result<()> {
-    let mut table = [0u8; 256];
     let mut text = [0u8; 768];
-    let mut place: usize = 0;
-    while made_tables::make(place, &mut table) {
+    for table in (0..15).map_while(made_tables::make) {
         table_text::put(&table, &mut text);
         if rt.write_all(&text).is_err() {
             return eprintln!(rt; "print_tables: not all tables could be written");
         }
-        place += 1;
     }
     Ok(())
 }

@@ -5,7 +5,7 @@ ghost use Rattle.std.specs.Prelude.{◌≡◌};
 ghost use Rattle.printed.specs.Rule;
 
 // A half of a word of 16 bits.
-#[derive(Clone, Copy)]
+#[derive(Clone, Copy, Debug, PartialEq, Eq, Hash)]
 pub enum Half {
     Low,
     High,
@@ -16,8 +16,8 @@ pub fn in_half(h: Half, b: u8) -> u16
     ensures { result ≡ Rule.in_half h b }
 {
     match h {
-        Half::Low => b as u16,
-        Half::High => (b as u16) * 256,
+        Half::Low => u16::from(b),
+        Half::High => u16::from(b) * 256,
     }
 }
 
@@ -25,8 +25,9 @@ pub fn in_half(h: Half, b: u8) -> u16
 pub fn half_of(h: Half, x: u16) -> u8
     ensures { result ≡ Rule.half_of h x }
 {
+    let [high, low] = x.to_be_bytes();
     match h {
-        Half::Low => (x % 256) as u8,
-        Half::High => (x / 256 % 256) as u8,
+        Half::Low => low,
+        Half::High => high,
     }
 }

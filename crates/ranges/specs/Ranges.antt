@@ -1,6 +1,6 @@
 -- Numbers counted in ranges: those that are the same number when divided by 4,096, each at its own place of a table. No entry point's contract
 -- speaks of it.
-use Rattle.std.specs.Prelude.{◌≡◌, cond, List, ℕ, zero, suc, ◌+◌, ◌/◌, ◌%◌, eqb, length, get_or}
+use Rattle.std.specs.Prelude.{◌≡◌, Bool, cond, false, List, ℕ, zero, suc, ◌+◌, ◌/◌, ◌%◌, eqb, length, get_or}
 use Rattle.trigrams.specs.Trigrams.{count}
 use Rattle.trigrams.specs.Taken.{taken}
 
@@ -31,6 +31,6 @@ abbrev pub shared_below : ℕ → List ℕ → List ℕ → ℕ
 shared_below n x y = sum_to n (λ range. shared_in range x y)
 
 -- a range in which the list x has numbers is marked
-pub record Marked (x marks : List ℕ) : Type 0 where
+pub record Marked (x : List ℕ) (marks : List Bool) : Type 0 where
   pub long : length marks ≡ 4096
-  pub none : (v : ℕ) → get_or marks (v / 4096) 0 ≡ 0 → count v x ≡ 0
+  pub none : (v : ℕ) → get_or marks (v / 4096) false ≡ false → count v x ≡ 0

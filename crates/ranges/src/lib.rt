@@ -13,10 +13,8 @@ fn count_in(range: usize, a: &[u8], counts: &mut [usize])
     requires { Counted range [] counts.old }
     ensures { Counted range (trigrams a.now) counts.new }
 {
-    let mut i: usize = 0;
-    while i + 2 < a.len() {
+    for i in 0..trigrams::number_in(a.len()) {
         let v = trigrams::at(a, i);
-        i += 1;
         if v / 4096 == range {
             counts[v % 4096] += 1;
         }
@@ -28,11 +26,9 @@ fn take_in(range: usize, b: &[u8], counts: &mut [usize]) -> usize
     requires { length counts.old ≡ 4096 }
     ensures { result ≡ taken (held range counts.old) (trigrams b.now) }
 {
-    let mut c: usize = 0;
-    let mut j: usize = 0;
-    while j + 2 < b.len() {
+    let mut c = 0;
+    for j in 0..trigrams::number_in(b.len()) {
         let v = trigrams::at(b, j);
-        j += 1;
         if v / 4096 == range {
             let n = counts[v % 4096];
             if 0 < n {
@@ -54,29 +50,25 @@ fn shared_in(range: usize, a: &[u8], b: &[u8]) -> usize
 }
 
 // Marks the ranges in which a has trigrams.
-fn mark(a: &[u8], marks: &mut [u8])
+fn mark(a: &[u8], marks: &mut [bool])
     requires { length marks.old ≡ 4096 }
     ensures { Marked (trigrams a.now) marks.new }
 {
-    let mut i: usize = 0;
-    while i + 2 < a.len() {
-        marks[trigrams::at(a, i) / 4096] = 1;
-        i += 1;
+    for i in 0..trigrams::number_in(a.len()) {
+        marks[trigrams::at(a, i) / 4096] = true;
     }
 }
 
-// How many trigrams two segments share.
+// How many trigrams two segments share. It stays a function of its own, so that a caller that has shorter segments does not touch its room.
+#[inline(never)]
 pub fn shared(a: &[u8], b: &[u8]) -> usize
     ensures { result ≡ shared (trigrams a.now) (trigrams b.now) }
 {
-    let mut marks = [0u8; 4096];
+    let mut marks = [false; 4096];
     mark(a, &mut marks);
-    let mut c: usize = 0;
-    let mut next: usize = 0;
-    while next < 4096 {
-        let range = next;
-        next += 1;
-        if marks[range] != 0 {
+    let mut c = 0;
+    for (range, marked) in marks.iter().enumerate() {
+        if *marked {
             c += shared_in(range, a, b);
         }
     }

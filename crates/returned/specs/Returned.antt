@@ -1,6 +1,6 @@
 -- What the functions for C return, and what they leave in the numbers that they are lent.
+use Rattle.suites.specs.Answer.{Answer}
 use Rattle.std.specs.Prelude.{◌≡◌, List, [], ◌∷◌, ℕ}
-use Rattle.suites.specs.declared.refusal.Answer.{Answer}
 use Rattle.suites.specs.declared.suite.Suite.{Suite}
 use Rattle.suites.specs.Told.{Told, told}
 

@@ -4,14 +4,14 @@
 ghost use Rattle.std.specs.Prelude.{◌≡◌};
 ghost use Rattle.returned.specs.Returned.{returned};
 
-use suites::refusal::Answer;
+use suites::refusal::Refusal;
 
 // 0 for a call that was done, else the refusal's number.
-pub fn code(answer: Answer) -> u32
+pub fn code(answer: Result<(), Refusal>) -> u32
     ensures { result ≡ returned answer }
 {
     match answer {
-        Answer::Done => 0,
-        Answer::Refused(why) => why.number(),
+        Ok(()) => 0,
+        Err(why) => why.number(),
     }
 }

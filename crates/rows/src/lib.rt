@@ -1,21 +1,9 @@
 // A row of a page. A function with a precondition serves our own crates, which see to it.
 #![tactic(auto)]
 
-ghost use Rattle.std.specs.Prelude.{◌≡◌, ◌≤◌, length, replicate};
+ghost use Rattle.std.specs.Prelude.{◌≡◌, ◌≤◌, length};
 ghost use Rattle.decimal.specs.Decimal.{digits};
 ghost use Rattle.rows.specs.Row.{right_aligned, row_of};
-
-// Blanks.
-fn blanks(out: &mut [u8])
-    ensures { out.new ≡ replicate (length out.old) 0x20 }
-{
-    let n = out.len();
-    let mut i: usize = 0;
-    while i < n {
-        out[i] = 0x20;
-        i += 1;
-    }
-}
 
 // A number, right-aligned in as many columns as there is room for, which are enough.
 fn column(n: u64, out: &mut [u8])
@@ -23,8 +11,8 @@ fn column(n: u64, out: &mut [u8])
     ensures { out.new ≡ right_aligned (length out.old) n }
 {
     let at = out.len() - decimal::count(n);
-    blanks(&mut out[..at]);
-    let k = decimal::put(n, &mut out[at..]);
+    out[..at].fill(b' ');
+    decimal::put(n, &mut out[at..]);
 }
 
 // The row of a source of `len` bytes, at most 4,096, with this score, at most 1,000, in room of 12 bytes.
@@ -35,8 +23,8 @@ pub fn put(len: usize, score: u32, out: &mut [u8])
     ensures { out.new ≡ row_of len score }
 {
     column(len as u64, &mut out[..5]);
-    out[5] = 0x20;
-    out[6] = 0x20;
-    column(score as u64, &mut out[7..11]);
-    out[11] = 0x0A;
+    out[5] = b' ';
+    out[6] = b' ';
+    column(u64::from(score), &mut out[7..11]);
+    out[11] = b'\n';
 }

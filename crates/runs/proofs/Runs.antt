@@ -17,7 +17,7 @@ use Rattle.state.specs.State.{rows_of}
 use Rattle.state.specs.Block.{rows, bytes}
 use Rattle.state.specs.Rows.{add_rows}
 use Rattle.rounds.specs.Cipher.{Parts, parts, unround, step, unstep, steps, unsteps, tweakeys, encipher, decipher, stepped, unstepped}
-use Rattle.runs.specs.Run.{ahead_block, back_block, each_up_to14}
+use Rattle.runs.specs.Run.{ahead_block, back_block, block_by, each_up_to14}
 use Rattle.blockwise.proofs.Each.{Blockwise, each_one}
 use Rattle.state.proofs.Trips.{rows_long, bytes_long}
 
@@ -106,6 +106,10 @@ back_blockwise c s n last key =
           sixteen (cond last (add_rows y (tk 0)) y)
           (cond_long last (add_rows y (tk 0)) y (add_long y (tk 0)) (unsteps_long (parts c) tk s n (rows b) (rows_long 8 b hb)));
     }
+
+pub blockwise_by : (ahead : Bool) (c : Cipher) (s n : ℕ) (wanted : Bool) (key : List ℕ) → Blockwise (block_by ahead c s n wanted key)
+blockwise_by true = ahead_blockwise
+blockwise_by false = back_blockwise
 
 -- the limit of a run of one is that of a step
 limit_of_one : (s : ℕ) → leb (s + 1) 14 ≡ ltb s 14

@@ -1,6 +1,6 @@
 -- A run of steps that need not be the first ones: what encipher and one step have in common in the code. No entry point's
 -- contract cites this file.
-use Rattle.std.specs.Prelude.{Bool, cond, List, ℕ, leb, take, drop}
+use Rattle.std.specs.Prelude.{Bool, true, false, cond, List, ℕ, leb, take, drop}
 use Rattle.std.proofs.Math.Seq.{paste}
 use Rattle.blockwise.specs.Blocks.{each_block}
 use Rattle.rounds.specs.declared.Cipher.{Cipher}
@@ -18,6 +18,11 @@ unfoldable pub back_block : Cipher → ℕ → ℕ → Bool → List ℕ → Lis
 back_block c s n last key tweak b =
     let y : List ℕ = unsteps (parts c) (tweakeys c key tweak) s n (rows b) in
     bytes (cond last (add_rows y (tweakeys c key tweak 0)) y)
+
+-- either
+abbrev pub block_by : Bool → Cipher → ℕ → ℕ → Bool → List ℕ → List ℕ → List ℕ → List ℕ
+block_by true = ahead_block
+block_by false = back_block
 
 -- b with f of the tweak and the block that stand at a place, put there
 abbrev pub one_at : (List ℕ → List ℕ → List ℕ) → ℕ → List ℕ → List ℕ → List ℕ

@@ -12,7 +12,7 @@ use Rattle.bits.specs.Table.{tab}
 use Rattle.bits.proofs.Bits.{bit_lt, bit_ext, bit_of_and, bit_of_or, bit_of_xor, bit_not, bit_of_zero, bit_gather, gather_lt}
 use Rattle.bits.proofs.Lists.{tab_ext}
 use Rattle.bits.proofs.Tests.{all, all_at}
-use Rattle.sbox.specs.Sbox.{column, layer, layer_at}
+use Rattle.sbox.specs.Sbox.{column, layer_at}
 use Rattle.sbox.specs.Circuit.{Expr, reg, xor, and, or, not, Instruction, put, eval, run, start, outcome}
 
 -- each register fits k bits
@@ -139,9 +139,3 @@ circuit_at k t p test w words =
     sym
     (tab_ext 8 (λ i. gather k (λ j. bit (get_or t (column w j) 0) i)) (λ i. get_or (run k p (start (λ i. get_or w i 0))) i 0)
     (row_is k t p test w words))
-
--- the same on the sixteen columns of a state
-pub circuit_is : (t : List ℕ) (p : List Instruction) → T (right p t) → (w : List ℕ) → ((i : ℕ) → get_or w i 0 < 2 ^ 16)
-    → tab 8 (λ i. get_or (run 16 p (start (λ i. get_or w i 0))) i 0) ≡ layer t w
-unfolding layer layer_at
-circuit_is = circuit_at 16

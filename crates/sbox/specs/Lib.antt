@@ -1,3 +1,4 @@
 pub mod Sbox
 pub mod Circuit
 pub mod Equations
+pub mod Words

@@ -7,7 +7,7 @@ ghost use Rattle.sbox.specs.Sbox;
 pub fn alone(b: u8) -> [u16; 8]
     ensures { result ≡ Sbox.alone b }
 {
-    let x = b as u16;
+    let x = u16::from(b);
     [
         x % 2,
         x / 2 % 2,
@@ -25,6 +25,7 @@ fn first_bit(x: u16) -> u8
     ensures { (result ≡ bit x 0)
         × (result < 2) }
 {
+    // `as`: try_from would have a refusal that can't come.
     (x % 2) as u8
 }
 

@@ -1,19 +1,24 @@
 // Scream's S-box on the eight rows: Algorithm 3 of the paper.
-ghost use Rattle.std.specs.Prelude.{◌≡◌};
+ghost use Rattle.std.specs.Prelude.{◌≡◌, ℕ, ◌^◌, ◌<◌, get_or, map};
 ghost use Rattle.sbox.specs.Sbox;
 
-// The S-box on all sixteen columns.
-pub fn layer(w: [u16; 8]) -> [u16; 8]
-    ensures { result ≡ Sbox.layer Sbox.scream w }
+use crate::word::Word;
+
+// The S-box on as many columns as the words are wide.
+pub fn circuit<W: Word>(w: [W; 8]) -> [W; 8]
+    requires { (i : ℕ) → get_or (map W.number w) i 0 < 2 ^ W.width }
+    ensures { map W.number result ≡ Sbox.layer_at W.width Sbox.scream (map W.number w) }
 {
-    let mut w0 = w[0];
-    let mut w1 = w[1];
-    let mut w2 = w[2];
-    let mut w3 = w[3];
-    let mut w4 = w[4];
-    let mut w5 = w[5];
-    let mut w6 = w[6];
-    let mut w7 = w[7];
+    let [
+        mut w0,
+        mut w1,
+        mut w2,
+        mut w3,
+        mut w4,
+        mut w5,
+        mut w6,
+        mut w7,
+    ] = w;
     // First 5-bit S-box
     w2 = w2 ^ (w0 & w1);
     w1 = w1 ^ w2;
@@ -51,4 +56,12 @@ pub fn layer(w: [u16; 8]) -> [u16; 8]
     w1 = w1 ^ (w2 & w4);
     w1 = w1 ^ w0;
     [w0, w1, w2, w3, w4, w5, w6, w7]
+}
+
+// The S-box on all sixteen columns of a state.
+#[tactic(auto, using(crate::proofs::Words::of_state))]
+pub fn layer(w: [u16; 8]) -> [u16; 8]
+    ensures { result ≡ Sbox.layer Sbox.scream w }
+{
+    circuit(w)
 }

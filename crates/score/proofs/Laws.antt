@@ -9,6 +9,7 @@ use native.Mathlib.Omega.{arith}
 use borrow.Author.Tests.{eqb-true, eq-eqb, ne_eqb}
 use lib.Dec.{eqb}
 use lib.ListN.{length}
+use Rattle.std.specs.Bool.{Decides}
 use Rattle.bits.specs.Bytes.{same_bytes}
 use Rattle.bits.proofs.Same.{same_equal, same_refl}
 use Rattle.trigrams.specs.Trigrams.{trigrams, shared}
@@ -27,6 +28,15 @@ unfolding equal_segments
 equal_means x y e =
     let both = (and-eq-true_iff (eqb (length x) (length y)) (same_bytes (length x) x y)).0 e in
     same_equal (length x) x y refl (sym (eqb-true (length x) (length y) both.0)) both.1
+
+-- what decides whether two segments are the same bytes is the definition's answer
+pub equal_decided : (x y : List ℕ) (r : Bool) → Decides r (x ≡ y) → equal_segments x y ≡ r
+equal_decided x y true d = ap (equal_segments x) (sym (d.0 refl)) ∙ equal_self x
+equal_decided x y false d = at (equal_segments x y) refl
+  where
+    at : (b : Bool) → equal_segments x y ≡ b → equal_segments x y ≡ false
+    at false p = p
+    at true p = let q = d.1 (equal_means x y p) in absurd cc
 
 pub equal_sym : (x y : List ℕ) → equal_segments x y ≡ equal_segments y x
 equal_sym x y = at (equal_segments x y) (equal_segments y x) refl refl

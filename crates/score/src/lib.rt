@@ -3,75 +3,45 @@
 
 ghost use Rattle.std.specs.Prelude.{◌≡◌, ◌+◌, ◌-◌, ◌*◌, ◌/◌, ◌≤◌, ◌<◌, length};
 ghost use Rattle.trigrams.specs.Trigrams.{trigrams, shared};
-ghost use Rattle.score.specs.Score.{equal_segments, score};
+ghost use Rattle.score.specs.Score.{score};
 
-// Whether two segments are equal.
-fn is_equal(a: &[u8], b: &[u8]) -> bool
-    ensures { result ≡ equal_segments a.now b.now }
-{
-    if a.len() != b.len() {
-        return false;
-    }
-    let mut i: usize = 0;
-    while i < a.len() {
-        if a[i] != b[i] {
-            return false;
-        }
-        i += 1;
-    }
-    true
-}
+use tally::Tally;
 
-// The trigrams that two segments share, where the first has at most 256 bytes.
-fn shared_small(a: &[u8], b: &[u8]) -> usize
-    requires { length a.now ≤ 256 }
+// The trigrams that two segments share, where the first has at most N bytes: its are counted. It stays a function of its own, so that a call
+// for short segments does not touch the room of the others.
+#[inline(never)]
+fn shared_within<const N: usize>(a: &[u8], b: &[u8]) -> usize
+    requires some { 0 < N }
+    requires few { N ≤ 4096 }
+    requires within { length a.now ≤ N }
     ensures { result ≡ shared (trigrams a.now) (trigrams b.now) }
 {
-    let mut head = [0u16; 2048];
-    let mut next = [0u16; 256];
-    let mut counts = [0u16; 256];
-    let mut keys = [0u32; 256];
-    tally::fill(a, &mut head, &mut next, &mut counts, &mut keys);
-    tally::take_all(a, b, &head, &next, &mut counts, &mut keys)
+    let mut tally: Tally<N> = Tally::new();
+    tally.fill(a);
+    tally.take_all(b)
 }
 
-// The same, where it has at most 4,096.
-fn shared_large(a: &[u8], b: &[u8]) -> usize
-    requires { length a.now ≤ 4096 }
+// The same, where the first has any length.
+fn shared_first(a: &[u8], b: &[u8]) -> usize
     ensures { result ≡ shared (trigrams a.now) (trigrams b.now) }
 {
-    let mut head = [0u16; 2048];
-    let mut next = [0u16; 4096];
-    let mut counts = [0u16; 4096];
-    let mut keys = [0u32; 4096];
-    tally::fill(a, &mut head, &mut next, &mut counts, &mut keys);
-    tally::take_all(a, b, &head, &next, &mut counts, &mut keys)
-}
-
-// The same, where it has any length.
-fn shared_long(a: &[u8], b: &[u8]) -> usize
-    ensures { result ≡ shared (trigrams a.now) (trigrams b.now) }
-{
-    if a.len() <= 4096 {
-        return shared_large(a, b);
+    match a.len() {
+        ..=256 => shared_within::<256>(a, b),
+        ..=4096 => shared_within::<4096>(a, b),
+        _ => ranges::shared(a, b),
     }
-    ranges::shared(a, b)
 }
 
-// The same of any two: the shorter one's are counted. A call for short ones does not touch the room of the others.
+// The same of any two: the shorter one's are counted.
+#[tactic(auto, using(trigrams::proofs::Common::shared_sym))]
 fn shared_either(a: &[u8], b: &[u8]) -> usize
     ensures { result ≡ shared (trigrams a.now) (trigrams b.now) }
 {
     if a.len() <= b.len() {
-        if a.len() <= 256 {
-            return shared_small(a, b);
-        }
-        return shared_long(a, b);
+        shared_first(a, b)
+    } else {
+        shared_first(b, a)
     }
-    if b.len() <= 256 {
-        return shared_small(b, a);
-    }
-    shared_long(b, a)
 }
 
 // 1,000 × a divided by n, rounded down, of numbers however large.
@@ -82,15 +52,13 @@ fn long_quotient(a: usize, n: usize) -> u32
 {
     let mut q: u32 = 0;
     let mut rest: usize = 0;
-    let mut i: usize = 0;
-    while i < 1000 {
+    for _ in 0..1000u32 {
         if rest < n - a {
             rest += a;
         } else {
             rest -= n - a;
             q += 1;
         }
-        i += 1;
     }
     q
 }
@@ -115,7 +83,7 @@ pub fn score_by(c: usize, a: &[u8], b: &[u8]) -> u32
 {
     let n = trigrams::number_in(a.len()) + trigrams::number_in(b.len());
     if n == 0 {
-        if is_equal(a, b) {
+        if a == b {
             return 1000;
         }
         return 0;

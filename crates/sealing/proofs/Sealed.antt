@@ -1,4 +1,6 @@
 -- The sealed bytes as they are written, and the answers of `seal` and `seal_in_place`.
+use Rattle.suites.specs.Answer.{Answer}
+use Rattle.std.specs.Prelude.{Ok, Err}
 use mathlib.Core.Path.{◌≡◌, sym, ap, ◌∙◌}
 use mathlib.Core.List.{List, ◌++◌, append_assoc}
 use Prim.Native.Nat.{ℕ, ◌+◌, ◌-◌, ◌*◌, ◌^◌, ◌≤◌}
@@ -11,8 +13,6 @@ use Rattle.calls.specs.Pieces.{through, header_sum, tag_from}
 use Rattle.calls.specs.Tweak.{blocks_of}
 use Rattle.calls.proofs.ByBlocks.{sealing_is, length_sealing, length_through, length_tag_from, length_checksum, length_header_sum}
 use Rattle.calls.proofs.Distinct.{length_calls}
-use Rattle.suites.specs.declared.refusal.Answer.{Answer}
-use Rattle.suites.specs.declared.refusal.Answer.TheVariants.{Done, Refused}
 use Rattle.suites.specs.declared.refusal.Refusal.{Refusal}
 use Rattle.suites.specs.declared.suite.Suite.{Suite}
 use Rattle.limits.specs.Tests.{seal_tests}
@@ -24,8 +24,7 @@ use Rattle.text_blocks.proofs.Parts.{through_split}
 use Rattle.sums.proofs.Sums.{sum_of_lem}
 use Rattle.blockwise.specs.Blocks.{block}
 use Rattle.sealing.specs.Passes.{Passable}
-use Rattle.sealing.specs.Seal.{sealed, written, seal_report}
-use Rattle.sealing.specs.declared.seal.SealAnswer.TheVariants.{Sealed, Refused as SealRefused}
+use Rattle.sealing.specs.Seal.{sealed, written, seal_report, made_sealed}
 
 pub checksum_is : (t : List ℕ) → sum_from (replicate 16 0) (blocks_of (length t)) (λ i. filled 0 (block t i)) ≡ checksum t
 unfolding checksum
@@ -99,14 +98,14 @@ module _ (s : Suite) (key nonce h : List ℕ) (m : ℕ) (out : List ℕ) where
   abbrev pub tests : Answer
   tests = seal_tests s.cipher s.steps (length key) (length nonce) (length h) m (length out)
 
-  pub seal_refused : (why : Refusal) → tests ≡ Refused why → (t : List ℕ)
-      → (SealRefused why ≡ seal_report tests (m + 16) (length (calls nonce h t))) × (out ≡ written tests (sealed s.cipher s.steps key nonce h t) out)
+  pub seal_refused : (why : Refusal) → tests ≡ Err why → (t : List ℕ)
+      → (Err why ≡ seal_report tests (m + 16) (length (calls nonce h t))) × (out ≡ written tests (sealed s.cipher s.steps key nonce h t) out)
   seal_refused why e t = (
     sym (ap (λ (a : Answer). seal_report a (m + 16) (length (calls nonce h t))) e),
     sym (ap (λ (a : Answer). written a (sealed s.cipher s.steps key nonce h t) out) e),
   )
 
-  module _ (e : tests ≡ Done) where
+  module _ (e : tests ≡ Ok tt) where
     pub passed : Passed s key nonce h m out
     passed =
         let p = seal_passed s.cipher s.steps (length key) (length nonce) (length h) m (length out) e in
@@ -122,12 +121,12 @@ module _ (s : Suite) (key nonce h : List ℕ) (m : ℕ) (out : List ℕ) where
         }
 
     pub seal_done : (t : List ℕ) → length t ≡ m
-        → (Sealed (m + 16) (blocks_of (length h) + blocks_of m + 1) ≡ seal_report tests (m + 16) (length (calls nonce h t)))
+        → (made_sealed (m + 16) (blocks_of (length h) + blocks_of m + 1) ≡ seal_report tests (m + 16) (length (calls nonce h t)))
         × (sealed s.cipher s.steps key nonce h t ++ drop (m + 16) out ≡ written tests (sealed s.cipher s.steps key nonce h t) out)
     seal_done t long =
         let all = sealed s.cipher s.steps key nonce h t in (
-          ap (λ (n : ℕ). Sealed (m + 16) (blocks_of (length h) + blocks_of n + 1)) (sym long)
-              ∙ ap (Sealed (m + 16)) (sym (length_calls nonce h t))
+          ap (λ (n : ℕ). made_sealed (m + 16) (blocks_of (length h) + blocks_of n + 1)) (sym long)
+              ∙ ap (made_sealed (m + 16)) (sym (length_calls nonce h t))
               ∙ sym (ap (λ (a : Answer). seal_report a (m + 16) (length (calls nonce h t))) e),
           ap (λ (n : ℕ). all ++ drop n out) (sym (length_sealed s key nonce h t passed.header.usable.short m long))
               ∙ sym (ap (λ (a : Answer). written a all out) e),

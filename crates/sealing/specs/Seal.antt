@@ -1,16 +1,15 @@
 -- What `seal` answers, and what it leaves in the output.
-use Rattle.std.specs.Prelude.{List, [], ◌∷◌, ◌++◌, ℕ, ◌+◌, length, take, drop}
+use Rattle.suites.specs.Answer.{Answer}
+use Rattle.suites.specs.declared.refusal.Refusal.{Refusal}
+use Rattle.sealing.specs.declared.seal.Sealed.{Sealed}
+use Rattle.std.specs.Prelude.{List, [], ◌∷◌, ◌++◌, ℕ, ◌+◌, length, take, drop, Result, Ok, Err}
 use Rattle.calls.specs.Calls.{calls}
 use Rattle.calls.specs.Sealing.{sealing}
-use Rattle.suites.specs.declared.refusal.Answer.{Answer}
-use Rattle.suites.specs.declared.refusal.Answer.TheVariants.{Done, Refused}
 use Rattle.suites.specs.Refusal.{number}
 use Rattle.suites.specs.Suite.{cipher_of}
 use Rattle.suites.specs.Told.{Told, gives, refuses}
 use Rattle.limits.specs.Tests.{seal_tests}
 use Rattle.rounds.specs.Cipher.{encipher}
-use Rattle.sealing.specs.declared.seal.SealAnswer.{SealAnswer}
-use Rattle.sealing.specs.declared.seal.SealAnswer.TheVariants.{Sealed, Refused as SealRefused}
 
 -- the sealed bytes of a text, ciphertext and tag, under a suite, a key, a nonce and a header
 unfoldable pub sealed : ℕ → ℕ → List ℕ → List ℕ → List ℕ → List ℕ → List ℕ
@@ -19,17 +18,24 @@ sealed cipher steps key nonce header text =
 
 -- "Seal and open write only that result at the output's start"; "left as it was: output"
 abbrev pub written : Answer → List ℕ → List ℕ → List ℕ
-written Done result out = result ++ drop (length result) out
-written (Refused why) result out = out
+written (Ok tt) result out = result ++ drop (length result) out
+written (Err why) result out = out
+
+-- the length of the sealed bytes and the number of cipher calls, or the refusal
+abbrev pub SealAnswer : Type 0
+SealAnswer = Result Sealed Refusal
+
+abbrev pub made_sealed : ℕ → ℕ → SealAnswer
+made_sealed len count = Ok (record { len = len; calls = count })
 
 -- "seal returns its length and call count"
 abbrev pub seal_report : Answer → ℕ → ℕ → SealAnswer
-seal_report Done len count = Sealed len count
-seal_report (Refused why) len count = SealRefused why
+seal_report (Ok tt) len count = made_sealed len count
+seal_report (Err why) len count = Err why
 
 abbrev pub seal_told : SealAnswer → Told
-seal_told (Sealed len count) = gives (len ∷ count ∷ [])
-seal_told (SealRefused why) = refuses (number why)
+seal_told (Ok s) = gives (s.len ∷ s.calls ∷ [])
+seal_told (Err why) = refuses (number why)
 
 -- "Seal: 1, 2, 3, 4, 6, 7."
 unfoldable pub seal_outcome : ℕ → ℕ → List ℕ → List ℕ → List ℕ → List ℕ → List ℕ → Answer

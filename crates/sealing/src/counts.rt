@@ -5,5 +5,5 @@ ghost use Rattle.std.specs.Prelude.{◌≡◌, min};
 pub fn lesser(a: usize, b: usize) -> usize
     ensures { result ≡ min a b }
 {
-    if a < b { a } else { b }
+    a.min(b)
 }

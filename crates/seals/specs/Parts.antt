@@ -13,8 +13,7 @@ pub record Under (key o : List ℕ) : Type 0 where
 -- the parts r of a frame s: its nonce, the header sealed along, and its sealed bytes, ciphertext and tag apart
 pub record PartsOf (nonce along sealed s : List ℕ) (r : Parts) : Type 0 where
   pub nonce_is : r.nonce ≡ nonce
-  pub along_is : take r.len r.along ≡ along
-  pub along_fits : r.len ≤ length r.along
+  pub along_is : r.along ≡ along
   pub sealed_is : take (r.end - r.start) (drop r.start s) ++ r.tag ≡ sealed
   pub starts : r.start ≤ r.end
   pub ends : r.end ≤ length s

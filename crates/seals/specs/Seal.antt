@@ -1,8 +1,7 @@
 -- The seal of one frame of a book: its text, whether its tag agrees, and its refusals. In the definitions of a frame, o are the bytes of the
 -- book's opening fields, n is the running number and s the bytes of the book from the place on.
-use Rattle.std.specs.Prelude.{Bool, List, ◌++◌, ℕ, eqb, length, take}
-use Rattle.suites.specs.declared.refusal.Answer.{Answer}
-use Rattle.suites.specs.declared.refusal.Answer.TheVariants.{Done}
+use Rattle.suites.specs.Answer.{Answer}
+use Rattle.std.specs.Prelude.{Bool, List, ◌++◌, ℕ, eqb, length, take, Ok}
 use Rattle.suites.specs.declared.refusal.Refusal.TheVariants.{TagDiffers, SegmentLength, FieldMalformed}
 use Rattle.limits.specs.Tests.{unless}
 use Rattle.opening.specs.Open.{opened, agrees}
@@ -40,11 +39,11 @@ unfoldable pub unit_seal_tests : Kind → List ℕ → List ℕ → ℕ → ℕ 
 unit_seal_tests kind key o n m s =
     unless (unit_agrees kind key o n m s) TagDiffers
     (unless (text_in_range m (source_length (unit_opened kind key o n m s))) SegmentLength
-    Done)
+    (Ok tt))
 
 -- of a close whose frame was tested: "8, then 14 for bytes left over"
 unfoldable pub close_seal_tests : Kind → List ℕ → List ℕ → ℕ → List ℕ → Answer
 close_seal_tests kind key o n s =
     unless (close_agrees kind key o n s) TagDiffers
     (unless (eqb (length (after_close kind s)) 0) FieldMalformed
-    Done)
+    (Ok tt))

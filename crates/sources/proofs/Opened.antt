@@ -1,4 +1,6 @@
 -- A unit that was checked: its ciphertext, its text, and how long its source is.
+use Rattle.parser.specs.declared.frame.Frame.TheVariants.{Unit}
+use Rattle.std.specs.Prelude.{Ok}
 use mathlib.Core.Path.{◌≡◌, sym, ap, ◌∙◌}
 use mathlib.Core.Bool.{true, ◌&&◌, and-eq-true_iff}
 use mathlib.Core.List.{List, ◌++◌}
@@ -20,7 +22,6 @@ use Rattle.format.proofs.Lengths.{length_nonce_of}
 use Rattle.opening.specs.Open.{ciphertext}
 use Rattle.opening.proofs.Opened.{opened_is}
 use Rattle.sealing.specs.Passes.{Passable, text_of}
-use Rattle.parser.specs.declared.frame.Frame.TheVariants.{Unit}
 use Rattle.parser.specs.Frame.{frame_at, frame_sealed, after_header}
 use Rattle.opening_fields.specs.Opening.{opening_number, opening_suite}
 use Rattle.parser.proofs.Frames.{UnitTold}
@@ -32,7 +33,7 @@ use Rattle.checker.specs.Check.{checked_at}
 use Rattle.checker.proofs.Sealed.{unit_sealed}
 use Rattle.checker.proofs.Turns.{unit_there}
 
-module _ (k : BookKind) (key o : List ℕ) (under : Under key o) (n m : ℕ) (s : List ℕ) (checked : checked_at (kind_of k) key o n s ≡ Unit m) where
+module _ (k : BookKind) (key o : List ℕ) (under : Under key o) (n m : ℕ) (s : List ℕ) (checked : checked_at (kind_of k) key o n s ≡ Ok (Unit m)) where
   pub told : UnitTold (kind_of k) n m s
   told = unit_there (kind_of k) key o n m s checked
 

@@ -12,6 +12,7 @@ pub struct State {
     pub high: u64,
 }
 
+// The lowest row: a cast asks that the number fits.
 fn row(x: u64) -> u16
     ensures { result ≡ x % 65536 }
 {
@@ -19,6 +20,7 @@ fn row(x: u64) -> u16
 }
 
 // The eight rows.
+#[tactic(auto, unfolding(crate::specs::State::rows_of))]
 pub fn rows_of(s: State) -> [u16; 8]
     ensures { result ≡ rows_of s }
 {
@@ -26,20 +28,20 @@ pub fn rows_of(s: State) -> [u16; 8]
     let y = s.high;
     [
         row(x),
-        row(x / 65536),
-        row(x / 4294967296),
-        row(x / 281474976710656),
+        row(x >> 16),
+        row(x >> 32),
+        row(x >> 48),
         row(y),
-        row(y / 65536),
-        row(y / 4294967296),
-        row(y / 281474976710656),
+        row(y >> 16),
+        row(y >> 32),
+        row(y >> 48),
     ]
 }
 
 fn four(a: u16, b: u16, c: u16, d: u16) -> u64
     ensures { result ≡ a + b * 65536 + c * 4294967296 + d * 281474976710656 }
 {
-    (a as u64) + (b as u64) * 65536 + (c as u64) * 4294967296 + (d as u64) * 281474976710656
+    u64::from(a) + (u64::from(b) << 16) + (u64::from(c) << 32) + (u64::from(d) << 48)
 }
 
 // The state of eight rows.
@@ -62,60 +64,23 @@ pub fn add(a: State, b: State) -> State
     }
 }
 
-fn word(low: u8, high: u8) -> u16
-    ensures { result ≡ low + high * 256 }
-{
-    (low as u16) + (high as u16) * 256
-}
-
-fn words_of(b: [u8; 16]) -> [u16; 8]
-    ensures { result ≡ rows b }
-{
-    [
-        word(b[0], b[1]),
-        word(b[2], b[3]),
-        word(b[4], b[5]),
-        word(b[6], b[7]),
-        word(b[8], b[9]),
-        word(b[10], b[11]),
-        word(b[12], b[13]),
-        word(b[14], b[15]),
-    ]
-}
-
 // The state of a block.
 pub fn load(b: [u8; 16]) -> State
     ensures { rows_of result ≡ rows b }
 {
-    state_of(words_of(b))
-}
-
-fn bytes_of(w: [u16; 8]) -> [u8; 16]
-    ensures { result ≡ bytes w }
-{
-    [
-        (w[0] % 256) as u8,
-        (w[0] / 256 % 256) as u8,
-        (w[1] % 256) as u8,
-        (w[1] / 256 % 256) as u8,
-        (w[2] % 256) as u8,
-        (w[2] / 256 % 256) as u8,
-        (w[3] % 256) as u8,
-        (w[3] / 256 % 256) as u8,
-        (w[4] % 256) as u8,
-        (w[4] / 256 % 256) as u8,
-        (w[5] % 256) as u8,
-        (w[5] / 256 % 256) as u8,
-        (w[6] % 256) as u8,
-        (w[6] / 256 % 256) as u8,
-        (w[7] % 256) as u8,
-        (w[7] / 256 % 256) as u8,
-    ]
+    let (words, _) = b.as_chunks::<8>();
+    State {
+        low: u64::from_le_bytes(words[0]),
+        high: u64::from_le_bytes(words[1]),
+    }
 }
 
 // The block of a state.
 pub fn store(s: State) -> [u8; 16]
     ensures { result ≡ bytes (rows_of s) }
 {
-    bytes_of(rows_of(s))
+    let mut b = [0u8; 16];
+    b[..8].copy_from_slice(&s.low.to_le_bytes());
+    b[8..].copy_from_slice(&s.high.to_le_bytes());
+    b
 }

@@ -1,218 +1,218 @@
-// Rounds and steps on the eight rows. A function that stands at one place of a loop is compiled into it, so the ways forth
-// and back have each their own. A function with a precondition serves our own crates, which lend it the right tables.
+// Rounds and steps on the eight rows. What the two ways through a cipher share is written once, over the trait `Way`, and what the two ways of
+// computing an L-box layer share over the trait `LBoxLayer`. A function with a precondition serves our own crates, which keep within the fourteen
+// steps that a suite has.
 #![tactic(auto)]
 
-ghost use Rattle.std.specs.Prelude.{◌≡◌, ◌+◌, ◌*◌, get_or};
-ghost use Rattle.bits.specs.Table.{tab};
+ghost use Rattle.std.specs.Prelude.{cond, Bool, true, false, List, ℕ, ◌≡◌, ◌+◌, ◌*◌, ◌-◌, ◌≤◌, ◌<◌};
 ghost use Rattle.lbox.specs.Lbox;
 ghost use Rattle.sbox.specs.Sbox;
-ghost use Rattle.lbox.specs.Tables.{looked_up, lows, highs};
-ghost use Rattle.rounds.specs.Cipher.{parts, constant, add_constant, round, unround, steps, unsteps};
-ghost use Rattle.steps.specs.Lent.{LentSteps};
+ghost use Rattle.tables.specs.LBox.{matrix};
+ghost use Rattle.rounds.specs.declared.Cipher.{Cipher};
+ghost use Rattle.rounds.specs.Cipher.{parts, constant, add_constant, round, unround};
+ghost use Rattle.steps.specs.Ways.{step_by, steps_by};
 ghost use Rattle.tweakey.specs.Schedule.{tweakeys_in};
 ghost use Rattle.state.specs.State.{rows_of};
 
 use rounds::Cipher;
 use state::State;
+use tables::{Joined, LBox};
 use tweakey::Schedule;
 
+// That a round is at most 28 and a step below 14 is asked at each: a number with its bound as a type would be made and taken apart at every turn.
+// `ahead` is a bool as in the definitions that the ciphers' contracts cite, where it is no type.
+
 // The round constants, by round number from 1: Appendix C of the paper.
-const CONSTANTS: [u8; 29] = *b"\x00\x1B\x36\x51\x6C\x87\xA2\xBD\
+static CONSTANTS: [u8; 29] = *b"\x00\x1B\x36\x51\x6C\x87\xA2\xBD\
     \xD8\xF3\x0E\x29\x44\x5F\x7A\x95\
     \xB0\xCB\xE6\x01\x1C\x37\x52\x6D\
     \x88\xA3\xBE\xD9\xF4";
 
-pub fn constants() -> [u8; 29]
-    ensures { result ≡ tab 29 constant }
+// The constant of a round.
+pub fn constant(r: usize) -> u16
+    requires { r ≤ 28 }
+    ensures { result ≡ constant r }
 {
-    CONSTANTS
-}
-
-// The S-box layer of a cipher, enciphering.
-pub fn sbox_layer(k: Cipher, w: [u16; 8]) -> [u16; 8]
-    ensures { result ≡ Sbox.layer (parts k).sbox w }
-{
-    match k {
-        Cipher::Scream => sbox::scream::layer(w),
-        Cipher::IScream => sbox::iscream::layer(w),
-    }
-}
-
-// The S-box layer of a cipher, deciphering.
-pub fn sbox_layer_back(k: Cipher, w: [u16; 8]) -> [u16; 8]
-    ensures { result ≡ Sbox.layer (parts k).sbox_inverse w }
-{
-    match k {
-        Cipher::Scream => sbox::scream_inverse::layer(w),
-        Cipher::IScream => sbox::iscream::layer(w),
-    }
-}
-
-fn wide(x: u8) -> u16
-    ensures { result ≡ x }
-{
-    x as u16
+    u16::from(CONSTANTS[r])
 }
 
 fn add_constant(w: [u16; 8], c: u16) -> [u16; 8]
     ensures { result ≡ add_constant c w }
 {
     let mut x = w;
-    x[0] = w[0] ^ c;
+    x[0] ^= c;
     x
 }
 
-// The L-box layer by joined tables, enciphering.
-pub fn lbox_layer<'a>(w: [u16; 8], low: &'a [u16; 256], high: &'a [u16; 256]) -> [u16; 8]
-    ensures { result ≡ tab 8 (λ i. looked_up low.now high.now (get_or w i 0)) }
+// The S-box layer of a cipher, enciphering or deciphering.
+#[inline(always)]
+pub fn sbox_layer(ahead: bool, k: Cipher, w: [u16; 8]) -> [u16; 8]
+    ensures { result ≡ Sbox.layer (cond ahead (parts k).sbox (parts k).sbox_inverse) w }
 {
-    [
-        lbox::look_up(w[0], low, high),
-        lbox::look_up(w[1], low, high),
-        lbox::look_up(w[2], low, high),
-        lbox::look_up(w[3], low, high),
-        lbox::look_up(w[4], low, high),
-        lbox::look_up(w[5], low, high),
-        lbox::look_up(w[6], low, high),
-        lbox::look_up(w[7], low, high),
-    ]
-}
-
-// The L-box layer by joined tables, deciphering.
-pub fn lbox_layer_back<'a>(w: [u16; 8], low: &'a [u16; 256], high: &'a [u16; 256]) -> [u16; 8]
-    ensures { result ≡ tab 8 (λ i. looked_up low.now high.now (get_or w i 0)) }
-{
-    [
-        lbox::look_up(w[0], low, high),
-        lbox::look_up(w[1], low, high),
-        lbox::look_up(w[2], low, high),
-        lbox::look_up(w[3], low, high),
-        lbox::look_up(w[4], low, high),
-        lbox::look_up(w[5], low, high),
-        lbox::look_up(w[6], low, high),
-        lbox::look_up(w[7], low, high),
-    ]
-}
-
-// One round.
-fn round<'a>(k: Cipher, w: [u16; 8], c: u16, low: &'a [u16; 256], high: &'a [u16; 256]) -> [u16; 8]
-    requires { (low.now ≡ lows (parts k).lbox)
-        × (high.now ≡ highs (parts k).lbox) }
-    ensures { result ≡ Lbox.layer (parts k).lbox (add_constant c (Sbox.layer (parts k).sbox w)) }
-{
-    let y = sbox_layer(k, w);
-    let z = add_constant(y, c);
-    lbox_layer(z, low, high)
-}
-
-// One round undone.
-fn round_back<'a>(
-    k: Cipher,
-    w: [u16; 8],
-    c: u16,
-    low: &'a [u16; 256],
-    high: &'a [u16; 256],
-) -> [u16; 8]
-    requires { (low.now ≡ lows (parts k).lbox_inverse)
-        × (high.now ≡ highs (parts k).lbox_inverse) }
-    ensures { result ≡ Sbox.layer (parts k).sbox_inverse (add_constant c (Lbox.layer (parts k).lbox_inverse w)) }
-{
-    let y = lbox_layer_back(w, low, high);
-    let z = add_constant(y, c);
-    sbox_layer_back(k, z)
-}
-
-// The two rounds of the step after s steps.
-fn two_rounds<'a>(
-    k: Cipher,
-    w: [u16; 8],
-    s: usize,
-    low: &'a [u16; 256],
-    high: &'a [u16; 256],
-    c: &'a [u8; 29],
-) -> [u16; 8]
-    requires { LentSteps (parts k).lbox s 1 low.now high.now c.now }
-    ensures { result ≡ round (parts k) (2 * s + 2) (round (parts k) (2 * s + 1) w) }
-{
-    let mut x = w;
-    let mut p: usize = 0;
-    while p < 2 {
-        let y = round(k, x, wide(c[2 * s + p + 1]), low, high);
-        x = y;
-        p += 1;
+    match (k, ahead) {
+        (Cipher::Scream, true) => sbox::scream::layer(w),
+        (Cipher::Scream, false) => sbox::scream_inverse::layer(w),
+        (Cipher::IScream, _) => sbox::iscream::layer(w),
     }
-    x
 }
 
-// The two rounds undone, the second first.
-fn two_rounds_back<'a>(
-    k: Cipher,
-    w: [u16; 8],
-    s: usize,
-    low: &'a [u16; 256],
-    high: &'a [u16; 256],
-    c: &'a [u8; 29],
-) -> [u16; 8]
-    requires { LentSteps (parts k).lbox_inverse s 1 low.now high.now c.now }
-    ensures { result ≡ unround (parts k) (2 * s + 1) (unround (parts k) (2 * s + 2) w) }
+// The L-box of a cipher likewise.
+pub fn lbox_of(ahead: bool, k: Cipher) -> LBox
+    ensures { matrix result ≡ cond ahead (parts k).lbox (parts k).lbox_inverse }
 {
-    let mut x = w;
-    let mut p: usize = 2;
-    while 0 < p {
-        p -= 1;
-        let y = round_back(k, x, wide(c[2 * s + p + 1]), low, high);
-        x = y;
+    match (k, ahead) {
+        (Cipher::Scream, true) => LBox::Scream,
+        (Cipher::Scream, false) => LBox::ScreamInverse,
+        (Cipher::IScream, _) => LBox::IScream,
     }
-    x
 }
 
-// n steps where s are done.
-pub fn steps<'a>(
-    k: Cipher,
-    s: usize,
-    n: usize,
-    h: Schedule,
-    x: State,
-    low: &'a [u16; 256],
-    high: &'a [u16; 256],
-    c: &'a [u8; 29],
-) -> State
-    requires { LentSteps (parts k).lbox s n low.now high.now c.now }
-    ensures { rows_of result ≡ steps (parts k) (tweakeys_in k h) s n (rows_of x) }
+// What computes the layer of an L-box.
+pub trait LBoxLayer {
+    ghost lbox: { Self → List (List ℕ) };
+
+    fn layer(&self, w: [u16; 8]) -> [u16; 8]
+        ensures { result ≡ Lbox.layer (lbox self.now) w };
+}
+
+// By joined tables.
+impl LBoxLayer for Joined<'_> {
+    ghost lbox = { λ j. matrix j.of };
+
+    #[inline(always)]
+    fn layer(&self, w: [u16; 8]) -> [u16; 8] {
+        [
+            self.row(w[0]),
+            self.row(w[1]),
+            self.row(w[2]),
+            self.row(w[3]),
+            self.row(w[4]),
+            self.row(w[5]),
+            self.row(w[6]),
+            self.row(w[7]),
+        ]
+    }
+}
+
+// A way through a cipher, enciphering or deciphering. The two have their rounds and the tweakey in the other order each, so each writes its own
+// step.
+pub trait Way {
+    ghost ahead: { Bool };
+
+    ghost cipher: { Self → Cipher };
+
+    fn is_ahead() -> bool
+        ensures { result ≡ ahead };
+
+    fn cipher(&self) -> Cipher
+        ensures { result ≡ cipher self.now };
+
+    // The step where s are done, or that step undone.
+    fn step(&self, h: Schedule, s: usize, x: State) -> State
+        requires { s < 14 }
+        ensures { rows_of result ≡ step_by ahead (parts (cipher self.now)) (tweakeys_in (cipher self.now) h) s (rows_of x) };
+}
+
+// Enciphering, with the layer of the cipher's L-box.
+#[derive(Drop)]
+pub struct Ahead<L: LBoxLayer> {
+    pub cipher: Cipher,
+    pub lbox: L,
+    ghost lbox_is: { L.lbox lbox ≡ (parts cipher).lbox },
+}
+
+impl<L: LBoxLayer> Ahead<L> {
+    // Round r.
+    #[inline(always)]
+    fn round(&self, w: [u16; 8], r: usize) -> [u16; 8]
+        requires { r ≤ 28 }
+        ensures { result ≡ round (parts self.now.cipher) r w }
+    {
+        let y = sbox_layer(true, self.cipher, w);
+        let z = add_constant(y, constant(r));
+        self.lbox.layer(z)
+    }
+}
+
+impl<L: LBoxLayer> Way for Ahead<L> {
+    ghost ahead = { true };
+
+    ghost cipher = { λ w. w.cipher };
+
+    fn is_ahead() -> bool {
+        true
+    }
+
+    fn cipher(&self) -> Cipher {
+        self.cipher
+    }
+
+    fn step(&self, h: Schedule, s: usize, x: State) -> State {
+        let y = self.round(state::rows_of(x), 2 * s + 1);
+        let z = self.round(y, 2 * s + 2);
+        state::add(state::state_of(z), tweakey::tweakey(self.cipher, h, s + 1))
+    }
+}
+
+// Deciphering, with the layer of the inverse of the cipher's L-box.
+#[derive(Drop)]
+pub struct Back<L: LBoxLayer> {
+    pub cipher: Cipher,
+    pub lbox: L,
+    ghost lbox_is: { L.lbox lbox ≡ (parts cipher).lbox_inverse },
+}
+
+impl<L: LBoxLayer> Back<L> {
+    // Round r undone.
+    #[inline(always)]
+    fn unround(&self, w: [u16; 8], r: usize) -> [u16; 8]
+        requires { r ≤ 28 }
+        ensures { result ≡ unround (parts self.now.cipher) r w }
+    {
+        let y = self.lbox.layer(w);
+        let z = add_constant(y, constant(r));
+        sbox_layer(false, self.cipher, z)
+    }
+}
+
+impl<L: LBoxLayer> Way for Back<L> {
+    ghost ahead = { false };
+
+    ghost cipher = { λ w. w.cipher };
+
+    fn is_ahead() -> bool {
+        false
+    }
+
+    fn cipher(&self) -> Cipher {
+        self.cipher
+    }
+
+    fn step(&self, h: Schedule, s: usize, x: State) -> State {
+        let t = tweakey::tweakey(self.cipher, h, s + 1);
+        let y = self.unround(state::rows_of(state::add(x, t)), 2 * s + 2);
+        let z = self.unround(y, 2 * s + 1);
+        state::state_of(z)
+    }
+}
+
+// n steps where s are done, or these undone, from the last to the first.
+pub fn steps<W: Way>(way: &W, s: usize, n: usize, h: Schedule, x: State) -> State
+    requires { s + n ≤ 14 }
+    ensures { rows_of result ≡ steps_by W.ahead (parts (W.cipher way.now)) (tweakeys_in (W.cipher way.now) h) s n (rows_of x) }
 {
     let mut y = x;
-    let mut i: usize = 0;
-    while i < n {
-        let w = two_rounds(k, state::rows_of(y), s + i, low, high, c);
-        let z = state::add(state::state_of(w), tweakey::tweakey(k, h, s + i + 1));
-        y = z;
-        i += 1;
+    for i in 0..n {
+        let done = at(W::is_ahead(), s, n, i);
+        y = way.step(h, done, y);
     }
     y
 }
 
-// n steps, after s others, undone from the last to the first.
-pub fn steps_back<'a>(
-    k: Cipher,
-    s: usize,
-    n: usize,
-    h: Schedule,
-    x: State,
-    low: &'a [u16; 256],
-    high: &'a [u16; 256],
-    c: &'a [u8; 29],
-) -> State
-    requires { LentSteps (parts k).lbox_inverse s n low.now high.now c.now }
-    ensures { rows_of result ≡ unsteps (parts k) (tweakeys_in k h) s n (rows_of x) }
+// How many steps are done before turn i of n, where s were done or, going back, will be.
+fn at(ahead: bool, s: usize, n: usize, i: usize) -> usize
+    requires { (i < n)
+        × (s + n ≤ 14) }
+    ensures { result ≡ cond ahead (s + i) (s + (n - 1 - i)) }
 {
-    let mut y = x;
-    let mut i = n;
-    while 0 < i {
-        let z = state::add(y, tweakey::tweakey(k, h, s + i));
-        i -= 1;
-        let w = two_rounds_back(k, state::rows_of(z), s + i, low, high, c);
-        let v = state::state_of(w);
-        y = v;
-    }
-    y
+    if ahead { s + i } else { s + (n - 1 - i) }
 }

@@ -1,11 +1,11 @@
 -- Numbers of refusals: each is from 1 to 16, and no two refusals have the same. So an answer told by number says as much as one by name.
+use Rattle.suites.specs.Answer.{Answer}
+use Rattle.std.specs.Prelude.{Ok, Err}
 use mathlib.Core.Path.{◌≡◌, refl, sym, ap, ◌∙◌}
 use mathlib.Core.List.{List, [], ◌∷◌}
 use Prim.Native.Nat.{ℕ, ◌-◌, ◌≤◌}
 use native.Mathlib.Omega.{arith}
 use lib.ListN.{get_or}
-use Rattle.suites.specs.declared.refusal.Answer.{Answer}
-use Rattle.suites.specs.declared.refusal.Answer.TheVariants.{Done, Refused}
 use Rattle.suites.specs.declared.refusal.Refusal.{Refusal}
 use Rattle.suites.specs.declared.refusal.Refusal.TheVariants.{
   SuiteNotListed,
@@ -78,10 +78,10 @@ pub number_one_to_one : (a b : Refusal) → number a ≡ number b → a ≡ b
 number_one_to_one a b e = sym (numbered a).0 ∙ ap refusal e ∙ (numbered b).0
 
 -- an answer without values, by what is told of it
-pub told_done : (a : Answer) → (told a).number ≡ 0 → a ≡ Done
-told_done Done e = refl
-told_done (Refused why) e = absurd (omega (arith, (number_within why).0))
+pub told_done : (a : Answer) → (told a).number ≡ 0 → a ≡ Ok tt
+told_done (Ok tt) e = refl
+told_done (Err why) e = absurd (omega (arith, (number_within why).0))
 
-pub told_refused : (a : Answer) (why : Refusal) → told a ≡ refuses (number why) → a ≡ Refused why
-told_refused Done why e = absurd (omega (arith, ap (λ (t : Told). t.number) e, (number_within why).0))
-told_refused (Refused other) why e = ap Refused (number_one_to_one other why (ap (λ (t : Told). t.number) e))
+pub told_refused : (a : Answer) (why : Refusal) → told a ≡ refuses (number why) → a ≡ Err why
+told_refused (Ok tt) why e = absurd (omega (arith, ap (λ (t : Told). t.number) e, (number_within why).0))
+told_refused (Err other) why e = ap Err (number_one_to_one other why (ap (λ (t : Told). t.number) e))

@@ -1,3 +1,4 @@
+pub mod Answer
 pub mod Refusal
 pub mod Suite
 pub mod Told

@@ -1,8 +1,7 @@
 -- An answer as the scope tells it: "When an answer is an enum, the promises use a definition that gives this paper's number and values for
 -- each case." Beside each type of answer stands the definition of its cases.
-use Rattle.std.specs.Prelude.{Bool, true, false, List, [], ℕ}
-use Rattle.suites.specs.declared.refusal.Answer.{Answer}
-use Rattle.suites.specs.declared.refusal.Answer.TheVariants.{Done, Refused}
+use Rattle.std.specs.Prelude.{Bool, true, false, List, [], ℕ, Ok, Err}
+use Rattle.suites.specs.Answer.{Answer}
 use Rattle.suites.specs.Refusal.{number}
 
 -- the refusal's number, 0 where there is none, and the values that are returned, none with a refusal
@@ -20,8 +19,8 @@ refuses n = record { number = n; values = [] }
 
 -- of an answer without values
 abbrev pub told : Answer → Told
-told Done = gives []
-told (Refused why) = refuses (number why)
+told (Ok done) = gives []
+told (Err why) = refuses (number why)
 
 -- where a cause is due its number, else what follows
 abbrev pub due : Bool → ℕ → Told → Told
@@ -30,5 +29,5 @@ due false n rest = rest
 
 -- after a call that was done the one, after a refused one the other
 abbrev pub by_answer : {A : Type 0} → Answer → A → A → A
-by_answer Done new old = new
-by_answer (Refused why) new old = old
+by_answer (Ok done) new old = new
+by_answer (Err why) new old = old

@@ -2,7 +2,7 @@
 ghost use Rattle.std.specs.Prelude.{◌≡◌};
 ghost use Rattle.suites.specs.Refusal.{number};
 
-#[derive(Clone, Copy)]
+#[derive(Clone, Copy, Debug, PartialEq, Eq)]
 pub enum Refusal {
     SuiteNotListed,
     KeyLength,
@@ -46,11 +46,4 @@ impl Refusal {
             Refusal::NoSuchUnit => 16,
         }
     }
-}
-
-// The answer of a call that has nothing to hand back but what it wrote.
-#[derive(Clone, Copy)]
-pub enum Answer {
-    Done,
-    Refused(Refusal),
 }

@@ -5,17 +5,11 @@ ghost use Rattle.suites.specs.Suite.{listed, cipher_of, made};
 use crate::refusal::Refusal;
 use rounds::Cipher;
 
-// Any two bytes; `make` makes listed ones only.
-#[derive(Clone, Copy)]
+// Any two bytes; `make` makes listed ones only. They stay bytes, and no enum: a book or a caller may bring any two, and refusal 1 answers them.
+#[derive(Clone, Copy, Debug, PartialEq, Eq)]
 pub struct Suite {
     pub cipher: u8,
     pub steps: u8,
-}
-
-#[derive(Clone, Copy)]
-pub enum Made {
-    Listed(Suite),
-    Refused(Refusal),
 }
 
 impl Suite {
@@ -28,36 +22,35 @@ impl Suite {
     pub const ISCREAM_STEPS: [u8; 4] = [8, 10, 12, 14];
 
     // The suite of these two bytes, if it is listed.
-    pub fn make(cipher: u8, steps: u8) -> Made
+    pub fn make(cipher: u8, steps: u8) -> Result<Suite, Refusal>
         ensures { result ≡ made cipher steps }
     {
         let s = Suite { cipher, steps };
         if s.is_listed() {
-            return Made::Listed(s);
+            Ok(s)
+        } else {
+            Err(Refusal::SuiteNotListed)
         }
-        Made::Refused(Refusal::SuiteNotListed)
     }
 
     // Whether the suite is one of the eight that there are.
     pub fn is_listed(self) -> bool
         ensures { result ≡ listed self.cipher self.steps }
     {
-        let a = Suite::SCREAM_STEPS;
-        let b = Suite::ISCREAM_STEPS;
-        let n = self.steps;
-        let c = self.cipher;
-        ((c == Suite::SCREAM) & ((n == a[0]) | (n == a[1]) | (n == a[2]) | (n == a[3])))
-            | ((c == Suite::ISCREAM) & ((n == b[0]) | (n == b[1]) | (n == b[2]) | (n == b[3])))
+        match self.cipher {
+            Suite::SCREAM => Suite::SCREAM_STEPS.contains(&self.steps),
+            Suite::ISCREAM => Suite::ISCREAM_STEPS.contains(&self.steps),
+            _ => false,
+        }
     }
 
     // The cipher of a listed suite; asked only where the suite is listed.
     pub fn cipher_of(self) -> Cipher
         ensures { result ≡ cipher_of self.cipher }
     {
-        let c = self.cipher;
-        if c == Suite::SCREAM {
-            return Cipher::Scream;
+        match self.cipher {
+            Suite::SCREAM => Cipher::Scream,
+            _ => Cipher::IScream,
         }
-        Cipher::IScream
     }
 }

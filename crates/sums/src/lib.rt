@@ -12,12 +12,8 @@ ghost use Rattle.sums.specs.Sums.{sum_from};
 pub fn add(a: [u8; 16], b: [u8; 16]) -> [u8; 16]
     ensures { result ≡ added a b }
 {
-    let mut r = [0u8; 16];
-    let mut i: usize = 0;
-    while i < 16 {
-        r[i] = a[i] ^ b[i];
-        i += 1;
-    }
+    let mut r = a;
+    add_to(&mut r, b);
     r
 }
 
@@ -39,13 +35,10 @@ pub fn fill(s: &[u8], pad: u8) -> [u8; 16]
 pub fn add_blocks(sum: [u8; 16], s: &[u8]) -> [u8; 16]
     ensures { result ≡ sum_from sum (length s.now / 16) (block s.now) }
 {
-    let n = s.len() / 16;
+    let (blocks, _) = s.as_chunks::<16>();
     let mut r = sum;
-    let mut i: usize = 0;
-    while i < n {
-        let next = add(r, blockwise::block_at(s, 16 * i));
-        r = next;
-        i += 1;
+    for b in blocks {
+        add_to(&mut r, *b);
     }
     r
 }
@@ -55,11 +48,11 @@ pub fn add_all(sum: [u8; 16], s: &[u8]) -> [u8; 16]
     ensures { result ≡ sum_from sum (blocks_of (length s.now)) (λ i. filled 0 (block s.now i)) }
 {
     let whole = add_blocks(sum, s);
-    let at = s.len() / 16 * 16;
-    if at == s.len() {
+    let (_, rest) = s.as_chunks::<16>();
+    if rest.is_empty() {
         return whole;
     }
-    add(whole, fill(&s[at..], 0))
+    add(whole, fill(rest, 0))
 }
 
 // At most 16 bytes, with the first bytes of a block added.
@@ -67,10 +60,7 @@ pub fn add_to(d: &mut [u8], b: [u8; 16])
     requires { length d.old ≤ 16 }
     ensures { d.new ≡ added d.old b }
 {
-    let n = d.len();
-    let mut i: usize = 0;
-    while i < n {
-        d[i] = d[i] ^ b[i];
-        i += 1;
+    for (i, x) in d.iter_mut().enumerate() {
+        *x ^= b[i];
     }
 }

@@ -31,14 +31,9 @@ fn end(i: usize) -> u8
 pub fn put(table: &[u8; 256], out: &mut [u8; 768])
     ensures { out.new ≡ table_text table.now }
 {
-    let mut text = [0u8; 768];
-    let mut i: usize = 0;
-    while i < 256 {
-        let b = table[i];
-        text[3 * i] = high(b);
-        text[3 * i + 1] = digit(b);
-        text[3 * i + 2] = end(i);
-        i += 1;
+    for (i, b) in table.iter().enumerate() {
+        out[3 * i] = high(*b);
+        out[3 * i + 1] = digit(*b);
+        out[3 * i + 2] = end(i);
     }
-    *out = text;
 }

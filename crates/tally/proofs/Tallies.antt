@@ -5,22 +5,20 @@ use Prim.Native.Nat.{ℕ, suc, ◌≤◌, ◌<◌}
 use native.Mathlib.Decide.{ℕ_discrete}
 use native.Mathlib.Omega.{arith}
 use borrow.Author.Tests.{eq-eqb, ne_eqb}
-use lib.ListN.{length, get_or, set, length-set}
+use lib.ListN.{length, get_or, set}
 use lib.Seq.{get_or-set_same, get_or-set_other}
 use Rattle.trigrams.specs.Taken.{put}
 use Rattle.tally.specs.Tally.{chain, look, Down, node_of, valued, Tally}
 use Rattle.tally.proofs.Chains.{look_here, look_on, found_right, found_le, look_set}
 
 -- where every chain is empty, nothing is counted
-pub tally_empty : (r : ℕ → ℕ) (head next counts : List ℕ) → ((h : ℕ) → get_or head h 0 ≡ 0) → Down next → get_or counts 0 0 ≡ 0 → length head ≡ 2048
-    → length counts ≡ length next → Tally r head next counts 0 (λ v. 0)
+pub tally_empty : (r : ℕ → ℕ) (head next counts : List ℕ) → ((h : ℕ) → get_or head h 0 ≡ 0) → Down next → get_or counts 0 0 ≡ 0
+    → Tally r head next counts 0 (λ v. 0)
 unfolding look
-tally_empty r head next counts e d z w l = record {
+tally_empty r head next counts e d z = record {
   heads = λ h. omega (arith, e h);
   down = d;
   none = z;
-  wide = w;
-  long = l;
   held = λ v. ap (λ (k : ℕ). get_or counts (look next r v k k) 0) (e (chain v)) ∙ z;
 }
 
@@ -36,8 +34,6 @@ module _ {r : ℕ → ℕ} {head next counts : List ℕ} {n : ℕ} {m : ℕ → 
     heads = t.heads;
     down = t.down;
     none = get_or-set_other counts k 0 x 0 (λ q. omega (arith, q)) ∙ t.none;
-    wide = t.wide;
-    long = length-set counts k x ∙ t.long;
     held = held;
   }
     where
@@ -59,12 +55,12 @@ module _ {r : ℕ → ℕ} {head next counts : List ℕ} {n : ℕ} {m : ℕ → 
               found-w q = ap r (sym q) ∙ found_right next r w _ _ (rw q p)
 
   -- a node more, for v, which is counted once
-  module _ (v : ℕ) (e : r (suc n) ≡ v) (hc : chain v < 2048) (room : suc n < length next) where
+  module _ (v : ℕ) (e : r (suc n) ≡ v) (wide : chain v < length head) (room : suc n < length next) (long : suc n < length counts) where
     heads-push : (h : ℕ) → get_or (set head (chain v) (suc n)) h 0 ≤ suc n
     heads-push h = at (ℕ_discrete h (chain v))
       where
         at : Dec (h ≡ chain v) → get_or (set head (chain v) (suc n)) h 0 ≤ suc n
-        at (yes q) = rw q (rw (get_or-set_same head (chain v) (suc n) 0 (rw t.wide hc)) (omega arith))
+        at (yes q) = rw q (rw (get_or-set_same head (chain v) (suc n) 0 wide) (omega arith))
         at (no d) = rw (get_or-set_other head (chain v) h (suc n) 0 d) (omega (arith, t.heads h))
 
     down-push : Down (set next (suc n) (get_or head (chain v) 0))
@@ -94,7 +90,7 @@ module _ {r : ℕ → ℕ} {head next counts : List ℕ} {n : ℕ} {m : ℕ → 
             ∙ old (get_or head (chain w) 0) (t.heads (chain w))
         at (yes c) =
             ap (λ (k : ℕ). look next' r w k k)
-            (ap (λ (h : ℕ). get_or (set head (chain v) (suc n)) h 0) c ∙ get_or-set_same head (chain v) (suc n) 0 (rw t.wide hc))
+            (ap (λ (h : ℕ). get_or (set head (chain v) (suc n)) h 0) c ∙ get_or-set_same head (chain v) (suc n) 0 wide)
             ∙ look_on down-push r w (suc n) (omega arith) (λ q. d (sym q ∙ e))
             ∙ ap (λ (k : ℕ). look next' r w k k) (get_or-set_same next (suc n) (get_or head (chain v) 0) 0 room)
             ∙ old (get_or head (chain v) 0) (t.heads (chain v))
@@ -114,9 +110,9 @@ module _ {r : ℕ → ℕ} {head next counts : List ℕ} {n : ℕ} {m : ℕ → 
         at (yes q) =
             rw (eq-eqb w v q)
             (ap (λ (u : ℕ). valued r head' next' (set counts (suc n) 1) u) q
-            ∙ ap (λ (k : ℕ). get_or (set counts (suc n) 1) (look next' r v k k) 0) (get_or-set_same head (chain v) (suc n) 0 (rw t.wide hc))
+            ∙ ap (λ (k : ℕ). get_or (set counts (suc n) 1) (look next' r v k k) 0) (get_or-set_same head (chain v) (suc n) 0 wide)
             ∙ ap (λ (k : ℕ). get_or (set counts (suc n) 1) k 0) (look_here next' r v (suc n) e)
-            ∙ get_or-set_same counts (suc n) 1 0 (rw t.long room))
+            ∙ get_or-set_same counts (suc n) 1 0 long)
         at (no d) =
             rw (ne_eqb w v d)
             (ap (λ (k : ℕ). get_or (set counts (suc n) 1) k 0) (node-push w d)
@@ -128,7 +124,5 @@ module _ {r : ℕ → ℕ} {head next counts : List ℕ} {n : ℕ} {m : ℕ → 
       heads = heads-push;
       down = down-push;
       none = get_or-set_other counts (suc n) 0 1 0 (λ q. omega (arith, q)) ∙ t.none;
-      wide = length-set head (chain v) (suc n) ∙ t.wide;
-      long = length-set counts (suc n) 1 ∙ t.long ∙ sym (length-set next (suc n) (get_or head (chain v) 0));
       held = held-push;
     }

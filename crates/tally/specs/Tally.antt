@@ -1,15 +1,9 @@
--- Trigrams that were counted: one node for each different one, on the chain of its hash. Node i + 1 is the segment's trigram from place i on;
--- 0 is no node. No entry point's contract speaks of it.
-use Rattle.std.specs.Prelude.{◌≡◌, cond, List, ℕ, zero, suc, ◌-◌, ◌*◌, ◌/◌, ◌%◌, ◌≤◌, ◌<◌, eqb, length, get_or}
-use Rattle.trigrams.specs.Trigrams.{trigram}
+-- Trigrams that were counted: one node for each different one, on the chain of its hash; node 0 is none. No entry point's contract speaks of it.
+use Rattle.std.specs.Prelude.{◌≡◌, cond, List, ℕ, zero, suc, ◌*◌, ◌/◌, ◌%◌, ◌≤◌, ◌<◌, eqb, get_or}
 
 -- which chain a trigram is on
 unfoldable pub chain : ℕ → ℕ
 chain v = v * 2654435761 / 2097152 % 2048
-
--- the trigram of node k of the segment s
-abbrev pub node : List ℕ → ℕ → ℕ
-node s k = trigram s (k - 1)
 
 -- the node of the trigram v on the chain from node k on, where r gives the nodes' trigrams and `left` steps are left; 0 where there is none
 unfoldable pub look : List ℕ → (ℕ → ℕ) → ℕ → ℕ → ℕ → ℕ
@@ -33,10 +27,4 @@ pub record Tally (r : ℕ → ℕ) (head next counts : List ℕ) (n : ℕ) (m : 
   pub heads : (h : ℕ) → get_or head h 0 ≤ n
   pub down : Down next
   pub none : get_or counts 0 0 ≡ 0
-  pub wide : length head ≡ 2048
-  pub long : length counts ≡ length next
   pub held : (v : ℕ) → valued r head next counts v ≡ m v
-
--- the nodes' trigrams, held beside them
-pub record Keys (r : ℕ → ℕ) (keys : List ℕ) (n : ℕ) : Type 0 where
-  pub key : (k : ℕ) → 0 < k → k ≤ n → get_or keys k 0 ≡ r k

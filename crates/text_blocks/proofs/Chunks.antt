@@ -1,14 +1,13 @@
 -- Many blocks at once under tweaks that are strung.
 use mathlib.Core.Path.{◌≡◌, sym, ap, ◌∙◌}
-use mathlib.Core.Bool.{Bool, true, false, cond}
+use mathlib.Core.Bool.{Bool, true, false}
 use mathlib.Core.List.{List, ◌++◌, append_assoc}
 use Prim.Native.Nat.{ℕ, ◌+◌, ◌*◌, ◌/◌, ◌≤◌, min}
 use native.Mathlib.Nat.{le_of_eq}
 use native.Mathlib.Omega.{arith}
 use lib.ListN.{length, take, drop, length-append, length-drop}
 use lib.Seq.{take_at, drop_at, drop-drop}
-use Rattle.cipher.specs.Entry.{enciphered_blocks, deciphered_blocks}
-use Rattle.suites.specs.Suite.{listed, cipher_of}
+use Rattle.suites.specs.Suite.{cipher_of}
 use Rattle.suites.specs.declared.suite.Suite.{Suite}
 use Rattle.blockwise.specs.Blocks.{block, strung, each_of, each_block}
 use Rattle.blockwise.proofs.Each.{Blockwise, strung_whole, strung_add, block_long, block_later, block_of_strung, strung_ext}
@@ -22,10 +21,10 @@ strung_front k tw long rest =
 
 module _ (k : ℕ) (tw : ℕ → List ℕ) (long : (i : ℕ) → length (tw i) ≡ 16) (rest b : List ℕ) (room : 16 * k ≤ length b) where
   -- every block under its own tweak
-  each-strung : (f : List ℕ → List ℕ → List ℕ)
+  pub each_strung : (f : List ℕ → List ℕ → List ℕ)
       → each_block f (take (16 * k) (strung k tw ++ rest)) b ≡ strung k (λ i. f (tw i) (block b i)) ++ drop (16 * k) b
   unfolding each_block each_of
-  each-strung f =
+  each_strung f =
       let t = strung k tw in
       let l : length t ≡ 16 * k = strung_whole k tw (λ i h. long i) in
       let n : min (length t) (length b) / 16 ≡ k = omega arith in
@@ -34,20 +33,6 @@ module _ (k : ℕ) (tw : ℕ → List ℕ) (long : (i : ℕ) → length (tw i) �
       ∙ ap (λ (x : List ℕ). x ++ drop (16 * k) b)
       (strung_ext k (λ i. f (block t i) (block b i)) (λ i. f (tw i) (block b i))
       (λ i h. ap (λ (x : List ℕ). f x (block b i)) (block_of_strung k tw (λ j l. long j) (λ j l. le_of_eq (long j)) i h)))
-
-  -- the same through the functions for many blocks, under a listed suite
-  module _ (s : Suite) (key : List ℕ) (l : listed s.cipher s.steps ≡ true) where
-    pub enciphered_strung : enciphered_blocks s.cipher s.steps key (take (16 * k) (strung k tw ++ rest)) b
-        ≡ strung k (λ i. enciphers s key (tw i) (block b i)) ++ drop (16 * k) b
-    unfolding enciphered_blocks
-    enciphered_strung =
-        ap (λ (c : Bool). cond c (each_block (enciphers s key) (take (16 * k) (strung k tw ++ rest)) b) b) l ∙ each-strung (enciphers s key)
-
-    pub deciphered_strung : deciphered_blocks s.cipher s.steps key (take (16 * k) (strung k tw ++ rest)) b
-        ≡ strung k (λ i. deciphers s key (tw i) (block b i)) ++ drop (16 * k) b
-    unfolding deciphered_blocks
-    deciphered_strung =
-        ap (λ (c : Bool). cond c (each_block (deciphers s key) (take (16 * k) (strung k tw ++ rest)) b) b) l ∙ each-strung (deciphers s key)
 
 -- the ciphers make a block of two
 pub enciphers_blockwise : (s : Suite) (key : List ℕ) → Blockwise (enciphers s key)

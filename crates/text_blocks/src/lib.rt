@@ -2,91 +2,61 @@
 #![tactic(auto)]
 
 pub mod marks;
+pub mod setting;
 
-ghost use Rattle.std.specs.Prelude.{true, ◌≡◌, ◌+◌, ◌*◌, ◌/◌, ◌^◌, ◌<◌, ◌≤◌, min, length};
+ghost use Rattle.std.specs.Prelude.{◌≡◌, ◌+◌, ◌*◌, ◌/◌, ◌^◌, ◌<◌, ◌≤◌, length};
 ghost use Rattle.calls.specs.Calls.{length_block};
 ghost use Rattle.calls.specs.Pieces.{through};
 ghost use Rattle.calls.specs.Tweak.{special_tweak, blocks_of, last_text_mark};
-ghost use Rattle.suites.specs.Suite.{listed};
 ghost use Rattle.text_blocks.specs.Under.{enciphers, deciphers, first_blocks, last_bytes, PadFor};
-ghost use Rattle.text_blocks.specs.Text.{Usable, Part};
+ghost use Rattle.text_blocks.specs.Text.{Part};
 
 use block_numbers::TextBlock;
-use suites::suite::Suite;
+use setting::Setting;
 
 // Into how many blocks n bytes are cut.
 pub fn blocks_of(n: usize) -> usize
-    requires { n ≤ 2 ^ 24 }
     ensures { result ≡ blocks_of n }
 {
-    (n + 15) / 16
-}
-
-// n, but at most 64.
-pub fn up_to_64(n: usize) -> usize
-    ensures { result ≡ min n 64 }
-{
-    if n < 64 { n } else { 64 }
+    n.div_ceil(16)
 }
 
 // One block enciphered.
-pub fn encipher_one(suite: Suite, key: [u8; 16], tweak: [u8; 16], block: [u8; 16]) -> [u8; 16]
-    requires { listed suite.cipher suite.steps ≡ true }
-    ensures { result ≡ enciphers suite key tweak block }
+pub fn encipher_one(u: &Setting<'_>, tweak: [u8; 16], block: [u8; 16]) -> [u8; 16]
+    ensures { result ≡ enciphers u.now.suite u.now.key tweak block }
 {
     let mut b = block;
-    cipher::blocks::encipher_blocks(suite, key, &tweak, &mut b);
+    cipher::blocks::cipher_blocks(true, u.suite, u.key, &tweak, &mut b);
     b
 }
 
-// The first k blocks of s, each under the tweak of its number, from `first` on.
-fn chunk(
-    ahead: bool,
-    suite: Suite,
-    key: [u8; 16],
-    nonce: &[u8],
-    first: TextBlock,
-    k: usize,
-    s: &mut [u8],
-)
-    requires { Usable suite nonce.now
-        × (k ≤ 64)
+// The first k blocks of s, each under the tweak of its number, from `first` on. `ahead` stays a bool here and in `blocks`, for it is the Bool of
+// the definitions that the ciphers' contracts cite (`first_blocks ahead`): by a type, each contract would turn it into that Bool.
+fn chunk(ahead: bool, u: &Setting<'_>, first: TextBlock, k: usize, s: &mut [u8])
+    requires { (k ≤ 64)
         × (16 * k ≤ length s.old)
         × (first.0 + k ≤ 2 ^ 32) }
-    ensures { s.new ≡ first_blocks ahead suite key nonce.now first.0 k s.old }
+    ensures { s.new ≡ first_blocks ahead u.now.suite u.now.key u.now.nonce.now first.0 k s.old }
 {
     let mut tweaks = [0u8; 1024];
-    tweak::text_tweaks(nonce, first, k, &mut tweaks);
+    tweak::text_tweaks(u.nonce, first, k, &mut tweaks);
     let end = 16 * k;
-    if ahead {
-        cipher::blocks::encipher_blocks(suite, key, &tweaks[..end], s);
-    } else {
-        cipher::blocks::decipher_blocks(suite, key, &tweaks[..end], s);
-    }
+    cipher::blocks::cipher_blocks(ahead, u.suite, u.key, &tweaks[..end], s);
 }
 
-// The whole blocks of s likewise.
-pub fn blocks(
-    ahead: bool,
-    suite: Suite,
-    key: [u8; 16],
-    nonce: &[u8],
-    first: TextBlock,
-    s: &mut [u8],
-)
-    requires { Usable suite nonce.now
-        × (first.0 + length s.old < 2 ^ 32) }
+// The whole blocks of s likewise, at most 64 at a time. By their numbers and not by `chunks_mut`: of a slice that was lent out in chunks, std says
+// its length afterwards and not its bytes.
+pub fn blocks(ahead: bool, u: &Setting<'_>, first: TextBlock, s: &mut [u8])
+    requires { first.0 + length s.old < 2 ^ 32 }
     ensures { s.new
-        ≡ first_blocks ahead suite key nonce.now first.0 (length s.old / 16) s.old }
+        ≡ first_blocks ahead u.now.suite u.now.key u.now.nonce.now first.0 (length s.old / 16) s.old }
 {
-    let end = 16 * (s.len() / 16);
-    let mut next = first;
-    let mut at: usize = 0;
-    while at < end {
-        let k = up_to_64((end - at) / 16);
-        chunk(ahead, suite, key, nonce, next, k, &mut s[at..]);
-        next = next.after(k);
-        at += 16 * k;
+    let n = s.len() / 16;
+    let turns = n.div_ceil(64);
+    for i in 0..turns {
+        let done = 64 * i;
+        let k = (n - done).min(64);
+        chunk(ahead, u, first.after(done), k, &mut s[16 * done..]);
     }
 }
 
@@ -101,13 +71,12 @@ pub fn length_block(r: usize) -> [u8; 16]
 }
 
 // What is added to the last block of a text of m bytes, which has r.
-pub fn pad(suite: Suite, key: [u8; 16], nonce: &[u8], m: usize, r: usize) -> [u8; 16]
-    requires { Usable suite nonce.now
-        × (r ≤ 16) }
-    ensures { result ≡ enciphers suite key (special_tweak nonce.now (last_text_mark m)) (length_block r) }
+pub fn pad(u: &Setting<'_>, m: usize, r: usize) -> [u8; 16]
+    requires { r ≤ 16 }
+    ensures { result ≡ enciphers u.now.suite u.now.key (special_tweak u.now.nonce.now (last_text_mark m)) (length_block r) }
 {
-    let t = tweak::special_tweak(nonce, marks::last_text_mark(m));
-    encipher_one(suite, key, t, length_block(r))
+    let t = tweak::special_tweak(u.nonce, marks::last_text_mark(m));
+    encipher_one(u, t, length_block(r))
 }
 
 // How many bytes the last block of m has; 0 where there is none.
@@ -123,31 +92,22 @@ pub fn last_bytes(m: usize) -> usize
 
 // A part of a text of m bytes, from block `first` on, deciphered; `pad` is what is added to the text's last block, and is any where the part ends
 // before that block.
-pub fn through(
-    suite: Suite,
-    key: [u8; 16],
-    nonce: &[u8],
-    m: usize,
-    first: TextBlock,
-    pad: [u8; 16],
-    s: &mut [u8],
-)
-    requires { Usable suite nonce.now
-        × Part m first.0 (length s.old)
-        × PadFor suite key nonce.now m first.0 (length s.old) pad }
+pub fn through(u: &Setting<'_>, m: usize, first: TextBlock, pad: [u8; 16], s: &mut [u8])
+    requires { Part m first.0 (length s.old)
+        × PadFor u.now.suite u.now.key u.now.nonce.now m first.0 (length s.old) pad }
     ensures { s.new
-        ≡ through (deciphers suite key) (enciphers suite key) nonce.now m first.0 s.old }
+        ≡ through (deciphers u.now.suite u.now.key) (enciphers u.now.suite u.now.key) u.now.nonce.now m first.0 s.old }
 {
     let n = s.len();
     let end = first.place() + n;
     if end < m {
-        blocks(false, suite, key, nonce, first, s);
+        blocks(false, u, first, s);
         return;
     }
     if n == 0 {
         return;
     }
     let at = 16 * ((n - 1) / 16);
-    blocks(false, suite, key, nonce, first, &mut s[..at]);
+    blocks(false, u, first, &mut s[..at]);
     sums::add_to(&mut s[at..], pad);
 }

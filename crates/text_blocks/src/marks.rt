@@ -19,6 +19,8 @@ fn mark(n: usize, whole: u8, partial: u8) -> u8
     partial
 }
 
+// One function for each of the three, so that no caller spells a mark: by an enum, the same three pairs would stand in a match.
+
 // The mark of the last block of a text of m bytes.
 pub fn last_text_mark(m: usize) -> u8
     ensures { result ≡ last_text_mark m }

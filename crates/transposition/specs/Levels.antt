@@ -1,8 +1,15 @@
 -- Squares of 64 times 64 bits, which the code turns: two of them in eight rows of sixteen words, one in the rows 0 to 3 and one in the rows
 -- 4 to 7. No entry point's contract cites this crate.
-use Rattle.std.specs.Prelude.{cond, ◌≡◌, List, [], ℕ, ◌+◌, ◌-◌, ◌*◌, ◌/◌, ◌%◌, ◌^◌, eqb, get_or, set}
+use Rattle.std.specs.Prelude.{Bool, cond, ◌||◌, ◌≡◌, List, [], ℕ, ◌+◌, ◌-◌, ◌*◌, ◌/◌, ◌%◌, ◌^◌, eqb, get_or, set}
 use Rattle.std.specs.Int.Bits.{bit_and, bit_xor}
 use Rattle.bits.specs.Table.{tab}
+
+-- how far apart what is exchanged may be: within a row, and between rows
+abbrev pub in_a_row : ℕ → Bool
+in_a_row d = eqb d 1 || (eqb d 2 || (eqb d 4 || eqb d 8))
+
+abbrev pub between_rows : ℕ → Bool
+between_rows d = eqb d 16 || eqb d 32
 
 -- word n of all
 abbrev pub word_at : List (List ℕ) → ℕ → ℕ

@@ -1,37 +1,33 @@
 // Two squares turned.
-ghost use Rattle.std.specs.Prelude.{◌≡◌, length};
+ghost use Rattle.std.specs.Prelude.{◌≡◌};
 ghost use Rattle.transposition.specs.Levels.{turned_row, within, turned};
 
-use crate::between::{level_16, level_32};
-use crate::within::{level_1, level_2, level_4, level_8};
+use crate::{between, within};
 
 // The levels within a row.
-fn row(r: [u64; 16]) -> [u64; 16]
-    ensures { result ≡ turned_row r }
+fn row(r: &mut [u64; 16])
+    ensures { r.new ≡ turned_row r.old }
 {
-    level_8(level_4(level_2(level_1(r))))
+    within::level::<1, 0x5555555555555555>(r);
+    within::level::<2, 0x3333333333333333>(r);
+    within::level::<4, 0x0F0F0F0F0F0F0F0F>(r);
+    within::level::<8, 0x00FF00FF00FF00FF>(r);
 }
 
 // The levels within each row.
 fn rows(x: &mut [[u64; 16]; 8])
-    requires { length x.old ≡ 8 }
     ensures { x.new ≡ within x.old }
 {
-    let mut i: usize = 0;
-    while i < 8 {
-        let r = x[i];
-        let y = row(r);
-        x[i] = y;
-        i += 1;
+    for r in x.iter_mut() {
+        row(r);
     }
 }
 
 // All levels.
 pub fn turn(x: &mut [[u64; 16]; 8])
-    requires { length x.old ≡ 8 }
     ensures { x.new ≡ turned x.old }
 {
     rows(x);
-    level_16(x);
-    level_32(x);
+    between::level::<16, 0x0000FFFF0000FFFF>(x);
+    between::level::<32, 0x00000000FFFFFFFF>(x);
 }

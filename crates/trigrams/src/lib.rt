@@ -9,13 +9,14 @@ ghost use Rattle.trigrams.specs.Read.{Read};
 pub fn number_in(n: usize) -> usize
     ensures { result ≡ n - 2 }
 {
-    if n < 2 { 0 } else { n - 2 }
+    n.saturating_sub(2)
 }
 
 // The trigram from a place on. It serves our own crates, which stay before the last two places.
+#[tactic(auto, unfolding(crate::specs::Trigrams::trigram))]
 pub fn at(s: &[u8], i: usize) -> usize
     requires { i + 2 < length s.now }
     ensures { Read s.now i result }
 {
-    (s[i] as usize) + 256 * (s[i + 1] as usize) + 65536 * (s[i + 2] as usize)
+    usize::from(s[i]) + 256 * usize::from(s[i + 1]) + 65536 * usize::from(s[i + 2])
 }

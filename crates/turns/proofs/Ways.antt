@@ -1,13 +1,13 @@
 -- What the code does one way or the other is the cipher's.
-use mathlib.Core.Path.{◌≡◌, sym, ap, ◌∙◌}
+use mathlib.Core.Path.{◌≡◌, subst, fun_ext}
 use mathlib.Core.Bool.{Bool, true, false}
 use mathlib.Core.List.{List}
 use Prim.Native.Nat.{ℕ, ◌+◌, ◌*◌}
-use lib.ListN.{length}
 use Rattle.blockwise.proofs.Each.{Blockwise}
 use Rattle.rounds.specs.declared.Cipher.{Cipher}
 use Rattle.rounds.specs.Cipher.{Parts, constant, round, unround}
-use Rattle.runs.proofs.Runs.{ahead_blockwise, back_blockwise, encipher_run, decipher_run}
+use Rattle.runs.specs.Run.{block_by}
+use Rattle.runs.proofs.Runs.{blockwise_by, encipher_run, decipher_run}
 use Rattle.turns.specs.Turns.{ciphered, round_by, two_rounds}
 
 -- the two rounds of a step, by the constants
@@ -20,9 +20,11 @@ module _ (p : Parts) (s : ℕ) (x : List ℕ) {ahead : Bool} {a b : ℕ} (first 
   unfolding two_rounds unround
   two_back e = rw e (λ i. round_by false p (first i) (round_by false p (second i) x))
 
+-- a run of all steps is the cipher
+pub ciphered_is : (ahead : Bool) (c : Cipher) (n : ℕ) (key : List ℕ) → block_by ahead c 0 n true key ≡ ciphered ahead c n key
+ciphered_is true c n key = fun_ext (λ t. fun_ext (λ b. encipher_run c n key t b))
+ciphered_is false c n key = fun_ext (λ t. fun_ext (λ b. decipher_run c n key t b))
+
 -- sixteen bytes in, sixteen bytes out
 pub ciphered_blockwise : (ahead : Bool) (c : Cipher) (n : ℕ) (key : List ℕ) → Blockwise (ciphered ahead c n key)
-ciphered_blockwise true c n key =
-    record { long = λ t b ht hb. ap length (sym (encipher_run c n key t b)) ∙ (ahead_blockwise c 0 n true key).long t b ht hb }
-ciphered_blockwise false c n key =
-    record { long = λ t b ht hb. ap length (sym (decipher_run c n key t b)) ∙ (back_blockwise c 0 n true key).long t b ht hb }
+ciphered_blockwise ahead c n key = subst Blockwise (ciphered_is ahead c n key) (blockwise_by ahead c 0 n true key)

@@ -15,17 +15,12 @@ fn based(nonce: &[u8]) -> [u8; 16]
     requires { length nonce.now ≤ 15 }
     ensures { result ≡ nonce.now ++ replicate (16 - length nonce.now) 0 }
 {
-    let n = nonce.len();
     let mut t = [0u8; 16];
-    let mut i: usize = 0;
-    while i < n {
-        t[i] = nonce[i];
-        i += 1;
-    }
+    blockwise::copy(nonce, &mut t);
     t
 }
 
-// A number in all bytes from n on of the block at a place.
+// A number in all bytes from n on of the block at a place: a loop, for these are 1 to 16 bytes and no width of `to_be_bytes`.
 fn put_number(d: &mut [u8], at: usize, n: usize, number: u32)
     requires { (n ≤ 15)
         × (at + 16 ≤ length d.old) }
@@ -33,18 +28,10 @@ fn put_number(d: &mut [u8], at: usize, n: usize, number: u32)
         ++ (big_endian (16 - n) number ++ drop (at + 16) d.old) }
 {
     let mut x = number;
-    let mut i: usize = 16;
-    while n < i {
-        i -= 1;
+    for i in (n..16).rev() {
         d[at + i] = (x % 256) as u8;
-        x = x / 256;
+        x /= 256;
     }
-}
-
-fn sum(a: u8, b: u8) -> u8
-    ensures { result ≡ (a + b) % 256 }
-{
-    (((a as u16) + (b as u16)) % 256) as u8
 }
 
 // A block put at a place: the base, a number in all bytes from n on, and a mark added in the first of these. It is made in place: a
@@ -58,25 +45,24 @@ fn put_marked(d: &mut [u8], at: usize, base: [u8; 16], n: usize, mark: u8, numbe
 {
     blockwise::put_at(d, at, base);
     put_number(d, at, n, number);
-    let first = sum(mark, d[at + n]);
-    d[at + n] = first;
+    d[at + n] = mark.wrapping_add(d[at + n]);
 }
 
-// The tweaks of k numbers from `first` on, one behind the other.
+// The tweaks of k numbers from `first` on, one behind the other. The number, how many, and where they go are handed on to it by the next two as
+// they are: a struct of the three would be built for that call alone, of one kind of number by each.
 fn fill(nonce: &[u8], mark: u8, first: u32, k: usize, tweaks: &mut [u8])
     requires { Makeable nonce.now first k tweaks.old }
     ensures { tweaks.new ≡ made_in (tweak nonce.now mark) first k tweaks.old }
 {
     let base = based(nonce);
     let n = nonce.len();
-    let mut i: usize = 0;
-    while i < k {
+    for i in 0..k {
         put_marked(tweaks, 16 * i, base, n, mark, first + (i as u32));
-        i += 1;
     }
 }
 
-// The tweaks of k text blocks that are not last, from `first` on, one behind the other.
+// The tweaks of k text blocks that are not last, from `first` on, one behind the other. This function and the next stay two: what they differ
+// in, a type and a mark, is all that each says over `fill`; a trait would say it in more lines.
 pub fn text_tweaks(nonce: &[u8], first: TextBlock, k: usize, tweaks: &mut [u8])
     requires { Makeable nonce.now first.0 k tweaks.old }
     ensures { tweaks.new ≡ made_in (text_tweak nonce.now) first.0 k tweaks.old }

@@ -78,13 +78,11 @@ pub fn schedule_of(k: Cipher, key: State, tweak: State) -> Schedule
 fn pick(h: Schedule, n: usize) -> State
     ensures { result ≡ held h n }
 {
-    if n == 0 {
-        return h.first;
+    match n {
+        0 => h.first,
+        1 => h.second,
+        _ => h.third,
     }
-    if n == 1 {
-        return h.second;
-    }
-    h.third
 }
 
 // What is added after step s.

@@ -1,10 +1,10 @@
 -- The answers of `verify_apart` and `open_within`, by what their tests say.
+use Rattle.suites.specs.Answer.{Answer}
+use Rattle.std.specs.Prelude.{Ok, Err}
 use mathlib.Core.Path.{◌≡◌, sym, ap}
 use mathlib.Core.List.{List}
 use Prim.Native.Nat.{ℕ}
 use lib.ListN.{length}
-use Rattle.suites.specs.declared.refusal.Answer.{Answer}
-use Rattle.suites.specs.declared.refusal.Answer.TheVariants.{Done, Refused}
 use Rattle.suites.specs.declared.refusal.Refusal.{Refusal}
 use Rattle.suites.specs.declared.suite.Suite.{Suite}
 use Rattle.limits.specs.Tests.{verify_tests}
@@ -13,7 +13,6 @@ use Rattle.opening.specs.Open.{opened, agrees, then_tag, by_tag}
 use Rattle.opening.proofs.Answers.{Ready, ready}
 use Rattle.verifying.specs.Verify.{verify_outcome, verify_report, verify_answer}
 use Rattle.verifying.specs.Within.{held_in, within_buffer}
-use Rattle.verifying.specs.declared.verify.VerifyAnswer.TheVariants.{Refused as VerifyRefused}
 
 module _ (s : Suite) (key nonce h x : List ℕ) where
   -- what the tests answer
@@ -32,9 +31,9 @@ module _ (s : Suite) (key nonce h x : List ℕ) where
   unfolding verify_answer
   verify-answer a e = ap (λ (o : Answer). verify_report o (opened s.cipher s.steps key nonce h x)) (verify_outcome_lem a e)
 
-  pub verify_refused : (why : Refusal) → tests ≡ Refused why
-      → VerifyRefused why ≡ verify_answer s.cipher s.steps key nonce h x
-  verify_refused why e = verify-answer (Refused why) e
+  pub verify_refused : (why : Refusal) → tests ≡ Err why
+      → Err why ≡ verify_answer s.cipher s.steps key nonce h x
+  verify_refused why e = verify-answer (Err why) e
 
   -- what is left in a working buffer
   pub within_buffer_lem : (work : List ℕ) (a : Answer) → tests ≡ a
@@ -42,10 +41,10 @@ module _ (s : Suite) (key nonce h x : List ℕ) where
   unfolding within_buffer
   within_buffer_lem work a e = sym (ap (λ (a : Answer). held_in a (opened s.cipher s.steps key nonce h x) work) e)
 
-  module _ (e : tests ≡ Done) where
+  module _ (e : tests ≡ Ok tt) where
     pub verify_ready : Ready s key nonce h x
     verify_ready =
         ready s key nonce h x (verify_passed s.cipher s.steps (length key) (length nonce) (length h) (length x) e)
 
     pub verify_done : verify_report (by_tag s key nonce h x) (opened s.cipher s.steps key nonce h x) ≡ verify_answer s.cipher s.steps key nonce h x
-    verify_done = verify-answer Done e
+    verify_done = verify-answer (Ok tt) e

@@ -1,4 +1,5 @@
 -- The first window is the start of the text.
+use Rattle.std.specs.Prelude.{Ok}
 use mathlib.Core.Path.{◌≡◌, refl, sym, ap, ◌∙◌}
 use mathlib.Core.List.{List, [], ◌∷◌, ◌++◌}
 use Prim.Native.Nat.{ℕ, zero, suc, ◌-◌, ◌*◌, ◌/◌, ◌%◌, ◌^◌, ◌≤◌, ◌<◌, min}
@@ -10,7 +11,6 @@ use Rattle.bits.proofs.Fronts.{drop_zeros}
 use Rattle.bits.proofs.Lists.{get_or_zeros}
 use Rattle.calls.specs.Pieces.{through}
 use Rattle.calls.proofs.ByBlocks.{length_through}
-use Rattle.suites.specs.declared.refusal.Answer.TheVariants.{Done}
 use Rattle.suites.specs.declared.suite.Suite.{Suite}
 use Rattle.text_blocks.specs.Under.{enciphers, deciphers}
 use Rattle.text_blocks.proofs.Chunks.{enciphers_blockwise, deciphers_blockwise}
@@ -57,7 +57,7 @@ module _ (s : Suite) (key nonce : List ℕ) (short : length nonce ≤ 15) (c : L
           ∙ ap (take w) (sym (through_split (deciphers s key) (enciphers s key) nonce (length c) c (w / 16) (omega arith)))
 
   pub window_held : (w : List ℕ) → length w % 16 ≡ 0
-      → text_in s key nonce c w ≡ held_in Done (text_of s key nonce c) w
+      → text_in s key nonce c w ≡ held_in (Ok tt) (text_of s key nonce c) w
   unfolding all
   window_held w whole = λ i. window_front (length w) whole i ++ (drop_least (length c) w ∙ ap (λ (n : ℕ). drop n w) (sym all-long)) i
 

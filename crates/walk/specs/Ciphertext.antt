@@ -1,12 +1,11 @@
 -- "Given k, a second call hands back unit k's ciphertext as a part of the book buffer itself, unopened, or, with no number, an empty part where
 -- the opening fields, the walk, or the framing, number or languages of k, would be refused or there is no unit k."
-use Rattle.std.specs.Prelude.{◌≡◌, List, ℕ, ◌+◌, take, drop}
+use Rattle.suites.specs.Answer.{Answer}
+use Rattle.parser.specs.FrameAnswer.{FrameAnswer}
+use Rattle.parser.specs.declared.frame.Frame.TheVariants.{Close, Unit}
+use Rattle.std.specs.Prelude.{◌≡◌, List, ℕ, ◌+◌, take, drop, Ok, Err}
 use Rattle.std.specs.Borrow.{Bor}
-use Rattle.suites.specs.declared.refusal.Answer.{Answer}
-use Rattle.suites.specs.declared.refusal.Answer.TheVariants.{Done, Refused}
 use Rattle.fields.specs.Kind.{Kind}
-use Rattle.parser.specs.declared.frame.Frame.{Frame}
-use Rattle.parser.specs.declared.frame.Frame.TheVariants.{Unit, Close, Refused as FrameRefused}
 use Rattle.kinds.specs.Kind.{kind_of, book_kind}
 use Rattle.kinds.specs.Lengths.{ciphertext_at}
 use Rattle.parser.specs.Frame.{frame_at}
@@ -19,18 +18,18 @@ abbrev pub empty_part : Part
 empty_part = record { at = 0; len = 0 }
 
 -- of a frame that begins at a place: the value of a unit's field 11
-abbrev pub part_at : Kind → ℕ → Frame → Part
-part_at kind at (Unit m) = record { at = at + ciphertext_at kind; len = m }
-part_at kind at Close = empty_part
-part_at kind at (FrameRefused why) = empty_part
+abbrev pub part_at : Kind → ℕ → FrameAnswer → Part
+part_at kind at (Ok (Unit m)) = record { at = at + ciphertext_at kind; len = m }
+part_at kind at (Ok Close) = empty_part
+part_at kind at (Err why) = empty_part
 
 -- of the frame at a place behind the opening fields, which are 16 bytes of the book s
 unfoldable pub part_from : Kind → Place → List ℕ → Part
 part_from kind p s = part_at kind (16 + p.at) (frame_at kind p.number (drop p.at (after_opening s)))
 
 abbrev pub part_unless : Answer → Part → Part
-part_unless Done part = part
-part_unless (Refused why) part = empty_part
+part_unless (Ok tt) part = part
+part_unless (Err why) part = empty_part
 
 -- where the ciphertext of unit k stands in a book s of a kind
 unfoldable pub ciphertext_place_of : Kind → ℕ → List ℕ → Part

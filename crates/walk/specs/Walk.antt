@@ -1,8 +1,8 @@
 -- "Fetch k walks units 0 to k−1 without their seals, opens unit k .."
-use Rattle.std.specs.Prelude.{List, ℕ, zero, suc, ◌+◌, drop}
+use Rattle.parser.specs.FrameAnswer.{FrameAnswer}
+use Rattle.parser.specs.declared.frame.Frame.TheVariants.{Close, Unit}
+use Rattle.std.specs.Prelude.{List, ℕ, zero, suc, ◌+◌, drop, Ok, Err}
 use Rattle.fields.specs.Kind.{Kind}
-use Rattle.parser.specs.declared.frame.Frame.{Frame}
-use Rattle.parser.specs.declared.frame.Frame.TheVariants.{Unit, Close, Refused as FrameRefused}
 use Rattle.kinds.specs.Lengths.{frame_length}
 use Rattle.parser.specs.Frame.{frame_at}
 use Rattle.walk.specs.declared.Place.{Place}
@@ -12,10 +12,10 @@ abbrev pub next_place : Kind → ℕ → Place → Place
 next_place kind m p = record { number = suc p.number; at = p.at + frame_length kind m }
 
 -- the walk goes on past a unit and stops at anything else
-abbrev pub past_unit : Frame → (ℕ → Place) → Place → Place
-past_unit (Unit m) past here = past m
-past_unit Close past here = here
-past_unit (FrameRefused why) past here = here
+abbrev pub past_unit : FrameAnswer → (ℕ → Place) → Place → Place
+past_unit (Ok (Unit m)) past here = past m
+past_unit (Ok Close) past here = here
+past_unit (Err why) past here = here
 
 -- past k units at most, from a place of s on
 unfoldable pub walk_on : Kind → ℕ → Place → List ℕ → Place

@@ -14,16 +14,16 @@ pub struct Part {
 pub fn place(book: &[u8], k: u64) -> Part
     ensures { result ≡ ciphertext_place k book.now }
 {
-    let clear = crate::clear::unit(book, k);
-    clear.ciphertext
+    match crate::clear::unit(book, k) {
+        Ok(clear) => clear.ciphertext,
+        Err(_) => Part { at: 0, len: 0 },
+    }
 }
 
 // The ciphertext of unit k as a part of the book itself, empty where there is none.
 pub fn ciphertext(book: &[u8], k: u64) -> &[u8]
     ensures { IsPart result book.entry (ciphertext_place k book.now) }
 {
-    let p = place(book, k);
-    let at = p.at;
-    let end = at + p.len;
-    &book[at..end]
+    let part = place(book, k);
+    &book[part.at..part.at + part.len]
 }

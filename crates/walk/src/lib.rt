@@ -30,7 +30,8 @@ fn read_ahead(s: &[u8]) -> u64
 }
 
 // Where the walk to unit k ends: past the units before it, or at the first frame on the way that is no unit or is refused. The book's bytes
-// behind its opening fields are s. `ahead` is 0 throughout, and is tested only so that the bytes ahead are read.
+// behind its opening fields are s. `ahead` is 0 throughout, and is tested only so that the bytes ahead are read. A while loop, whose places have no
+// range to go over: where a unit stands is known only from the one before it.
 pub fn to(kind: Kind, k: u64, s: &[u8]) -> Place
     ensures { result ≡ walk_to (kind_of kind) k s.now }
 {
@@ -39,10 +40,9 @@ pub fn to(kind: Kind, k: u64, s: &[u8]) -> Place
     let mut ahead: u64 = 0;
     while (number < k) & (ahead == 0) {
         let rest = &s[at..];
-        let m = parser::frame::ciphertext_len(kind, number, rest);
-        if m == 0 {
+        let Some(m) = parser::frame::ciphertext_len(kind, number, rest) else {
             return Place { number, at };
-        }
+        };
         number += 1;
         at += kind.unit_len(m);
         ahead = read_ahead(rest);

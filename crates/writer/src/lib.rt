@@ -6,15 +6,15 @@ ghost use Rattle.fields.specs.Unit.{unit_of};
 ghost use Rattle.writer_calls.specs.History.{add, close, state, Answers, Starts};
 
 use kinds::Kind;
-use suites::refusal::Answer;
+use suites::refusal::Refusal;
 use suites::suite::Suite;
 use writer_state::Writer;
 
 // A writer with the answer to its last call; with a refusal it is the writer that was given, or a closed writer of zeros at a start. The
-// next call goes by the writer alone.
+// next call goes by the writer alone. The scope's form: methods with self by value that return the next writer with the answer.
 #[derive(Clone, Copy)]
 pub struct Written {
-    pub answer: Answer,
+    pub answer: Result<(), Refusal>,
     pub writer: Writer,
 }
 
@@ -24,33 +24,25 @@ impl Written {
         ensures { Starts suite key.now number buf.old
             result.answer (state result.writer buf.new) }
     {
-        let tested = writer_state::tests::start_tests(suite, key.len(), buf.len());
-        match tested {
-            Answer::Refused(why) => {
-                let writer = writer_state::no_writer();
-                Written {
-                    answer: Answer::Refused(why),
-                    writer,
-                }
-            }
-            Answer::Done => {
-                let opening = format::layout::opening(suite, number);
-                blockwise::copy(&opening, buf);
-                let k = blockwise::block_at(key, 0);
-                let writer = Writer {
-                    suite,
-                    key: k,
-                    number,
-                    place: 16,
-                    count: 0,
-                    total: 0,
-                    closed: false,
-                };
-                Written {
-                    answer: Answer::Done,
-                    writer,
-                }
-            }
+        let answer = writer_state::tests::start_tests(suite, key.len(), buf.len());
+        if answer.is_err() {
+            return Written {
+                answer,
+                writer: writer_state::no_writer(),
+            };
+        }
+        blockwise::copy(&format::layout::opening(suite, number), buf);
+        Written {
+            answer,
+            writer: Writer {
+                suite,
+                key: blockwise::block_at(key, 0),
+                number,
+                place: 16,
+                count: 0,
+                total: 0,
+                closed: false,
+            },
         }
     }
 
@@ -67,50 +59,22 @@ impl Written {
             (state self.writer buf.old) result.answer (state result.writer buf.new) }
     {
         let w = self.writer;
+        let kind = Kind::newest();
         let s = source.len();
         let t = target.len();
-        let kind = Kind::newest();
-        let tested = writer_state::tests::add_tests(kind, w, from, to, s, t, buf.len());
-        match tested {
-            Answer::Refused(why) => Written {
-                answer: Answer::Refused(why),
-                writer: w,
+        let answer = writer_state::tests::add_tests(kind, w, from, to, s, t, buf.len());
+        if answer.is_err() {
+            return Written { answer, ..self };
+        }
+        let calls = frames::put_unit(kind, w, from, to, source, target, &mut buf[w.place..]);
+        Written {
+            answer,
+            writer: Writer {
+                place: w.place + kind.unit_room(s, t),
+                count: w.count + 1,
+                total: w.total + calls,
+                ..w
             },
-            Answer::Done => {
-                let at = w.place;
-                let suite = w.suite;
-                let key = w.key;
-                let number = w.number;
-                let count = w.count;
-                let total = w.total;
-                let closed = w.closed;
-                let taken = kind.unit_room(s, t);
-                let calls = frames::put_unit(
-                    kind,
-                    suite,
-                    key,
-                    number,
-                    count,
-                    from,
-                    to,
-                    source,
-                    target,
-                    &mut buf[at..],
-                );
-                let writer = Writer {
-                    suite,
-                    key,
-                    number,
-                    place: at + taken,
-                    count: count + 1,
-                    total: total + calls,
-                    closed,
-                };
-                Written {
-                    answer: Answer::Done,
-                    writer,
-                }
-            }
         }
     }
 
@@ -121,35 +85,19 @@ impl Written {
     {
         let w = self.writer;
         let kind = Kind::newest();
-        let tested = writer_state::tests::close_tests(kind, w, buf.len());
-        match tested {
-            Answer::Refused(why) => Written {
-                answer: Answer::Refused(why),
-                writer: w,
+        let answer = writer_state::tests::close_tests(kind, w, buf.len());
+        if answer.is_err() {
+            return Written { answer, ..self };
+        }
+        let calls = frames::put_close(kind, w, &mut buf[w.place..]);
+        Written {
+            answer,
+            writer: Writer {
+                place: w.place + kind.close_len(),
+                total: w.total + calls,
+                closed: true,
+                ..w
             },
-            Answer::Done => {
-                let at = w.place;
-                let suite = w.suite;
-                let key = w.key;
-                let number = w.number;
-                let count = w.count;
-                let total = w.total;
-                let tail = kind.close_len();
-                let made = frames::put_close(kind, suite, key, number, count, &mut buf[at..]);
-                let writer = Writer {
-                    suite,
-                    key,
-                    number,
-                    place: at + tail,
-                    count,
-                    total: total + made,
-                    closed: true,
-                };
-                Written {
-                    answer: Answer::Done,
-                    writer,
-                }
-            }
         }
     }
 }

@@ -1,12 +1,12 @@
 -- What a call is answered by number, where the writer is valid: 9 is not due.
+use Rattle.suites.specs.Answer.{Answer}
+use Rattle.std.specs.Prelude.{Ok}
 use mathlib.Core.Path.{◌≡◌, refl, ap, ◌∙◌}
 use mathlib.Core.Bool.{Bool, true, false, not}
 use mathlib.Core.List.{[]}
 use Prim.Native.Nat.{ℕ, ◌+◌}
 use lib.Dec.{eqb, leb, ltb}
 use lib.ListN.{length}
-use Rattle.suites.specs.declared.refusal.Answer.{Answer}
-use Rattle.suites.specs.declared.refusal.Answer.TheVariants.{Done}
 use Rattle.suites.specs.declared.refusal.Refusal.TheVariants.{
   SuiteNotListed,
   KeyLength,
@@ -52,22 +52,22 @@ module _ (kind : Kind) (e : State) (v : Valid kind e.writer (length e.buffer)) w
       let range = in_range (length u.source) (length u.target) in
       let few = ltb e.writer.count kind.unit_limit in
       let room = leb (e.writer.place + unit_length kind (length u.source) (length u.target)) (length e.buffer) in
-      let last = told_unless room OutputTooShort Done (gives []) refl in
-      let many = told_unless few TooManyUnits (unless room OutputTooShort Done) (due (not room) 7 (gives [])) last in
+      let last = told_unless room OutputTooShort (Ok tt) (gives []) refl in
+      let many = told_unless few TooManyUnits (unless room OutputTooShort (Ok tt)) (due (not room) 7 (gives [])) last in
       let long =
-      told_unless range SegmentLength (unless few TooManyUnits (unless room OutputTooShort Done)) (due (not few) 13 (due (not room) 7 (gives []))) many in
+      told_unless range SegmentLength (unless few TooManyUnits (unless room OutputTooShort (Ok tt))) (due (not few) 13 (due (not room) 7 (gives []))) many in
       writer-told _ _
-      (told_unless languages LanguagesNotAllowed (unless range SegmentLength (unless few TooManyUnits (unless room OutputTooShort Done)))
+      (told_unless languages LanguagesNotAllowed (unless range SegmentLength (unless few TooManyUnits (unless room OutputTooShort (Ok tt))))
       (due (not range) 12 (due (not few) 13 (due (not room) 7 (gives [])))) long)
   answers_told close =
       let room = leb (e.writer.place + close_length kind) (length e.buffer) in
-      writer-told (unless room OutputTooShort Done) (due (not room) 7 (gives [])) (told_unless room OutputTooShort Done (gives []) refl)
+      writer-told (unless room OutputTooShort (Ok tt)) (due (not room) 7 (gives [])) (told_unless room OutputTooShort (Ok tt) (gives []) refl)
 
 pub start_told : (suite : Suite) (k room : ℕ) → told (start_outcome suite k room) ≡ start_answer_to suite k room
 unfolding start_outcome
 start_told suite k room =
     let whole = eqb k 16 in
     let enough = leb 16 room in
-    let last = unless enough OutputTooShort Done in
+    let last = unless enough OutputTooShort (Ok tt) in
     told_unless (listed suite.cipher suite.steps) SuiteNotListed (unless whole KeyLength last) (due (not whole) 2 (due (not enough) 7 (gives [])))
-    (told_unless whole KeyLength last (due (not enough) 7 (gives [])) (told_unless enough OutputTooShort Done (gives []) refl))
+    (told_unless whole KeyLength last (due (not enough) 7 (gives [])) (told_unless enough OutputTooShort (Ok tt) (gives []) refl))

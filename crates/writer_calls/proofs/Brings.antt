@@ -1,5 +1,6 @@
 -- What an accepted call does, whichever it is: the bytes of its units, then those of a close, come to stand at the writer's place. A
 -- refused call changes nothing.
+use Rattle.std.specs.Prelude.{Ok, Err}
 use mathlib.Core.Path.{◌≡◌, sym, ap, ◌∙◌}
 use mathlib.Core.Bool.{false, ◌||◌, or-true, or-false, cond}
 use mathlib.Core.List.{List, [], ◌∷◌, ◌++◌, append-nil}
@@ -7,7 +8,6 @@ use Prim.Native.Nat.{ℕ, ◌+◌, ◌≤◌}
 use native.Mathlib.Nat.{add-zero}
 use native.Mathlib.Omega.{arith}
 use lib.ListN.{length}
-use Rattle.suites.specs.declared.refusal.Answer.TheVariants.{Done, Refused}
 use Rattle.suites.specs.declared.refusal.Refusal.{Refusal}
 use Rattle.fields.specs.Each.{EachFrom, none_from, more_from}
 use Rattle.fields.specs.Kind.{Kind}
@@ -94,7 +94,7 @@ module _ (kind : Kind) (e : State) where
   abbrev w : Writer
   w = e.writer
 
-  add-brings : (u : BookUnit) → Given kind u → outcome kind (add u) e ≡ Done → Brings kind (add u) e
+  add-brings : (u : BookUnit) → Given kind u → outcome kind (add u) e ≡ Ok tt → Brings kind (add u) e
   unfolding add_outcome
   add-brings u g done =
       let p = add_passed kind w u.from u.to (length u.source) (length u.target) (length e.buffer) done in
@@ -121,7 +121,7 @@ module _ (kind : Kind) (e : State) where
         few = omega (arith, p.few);
       }
 
-  close-brings : outcome kind close e ≡ Done → Brings kind close e
+  close-brings : outcome kind close e ≡ Ok tt → Brings kind close e
   close-brings done =
       let p = close_passed kind w (length e.buffer) done in
       let h = close_handed kind w e.buffer done in
@@ -147,10 +147,10 @@ module _ (kind : Kind) (e : State) where
         few = omega (arith, p.valid.count);
       }
 
-  pub brings : (c : Call) → Callable kind c → outcome kind c e ≡ Done → Brings kind c e
+  pub brings : (c : Call) → Callable kind c → outcome kind c e ≡ Ok tt → Brings kind c e
   brings (add u) (adds g) done = add-brings u g done
   brings close closes done = close-brings done
 
-  pub refused : (c : Call) {why : Refusal} → outcome kind c e ≡ Refused why → after_call kind c e ≡ e
+  pub refused : (c : Call) {why : Refusal} → outcome kind c e ≡ Err why → after_call kind c e ≡ e
   refused (add u) r = let h = add_handed kind w u e.buffer r in sym (λ j. record { writer = h.0 j; buffer = h.1 j })
   refused close r = let h = close_handed kind w e.buffer r in sym (λ j. record { writer = h.0 j; buffer = h.1 j })

@@ -1,9 +1,9 @@
 -- The writer and the buffer, by the answer of the tests.
+use Rattle.suites.specs.Answer.{Answer}
 use mathlib.Core.Path.{◌≡◌, sym, ap}
 use mathlib.Core.List.{List}
 use Prim.Native.Nat.{ℕ}
 use lib.ListN.{length}
-use Rattle.suites.specs.declared.refusal.Answer.{Answer}
 use Rattle.suites.specs.declared.suite.Suite.{Suite}
 use Rattle.fields.specs.Kind.{Kind}
 use Rattle.format.specs.Layout.{unit_bytes, close_bytes}

@@ -1,4 +1,6 @@
 -- The writer's half of demand 3 holds. Of an accepted call only what Brings says is used, so that calls of each sort go one way.
+use Rattle.suites.specs.Answer.{Answer}
+use Rattle.std.specs.Prelude.{Ok, Err}
 use mathlib.Core.Path.{◌≡◌, refl, sym, ap, ◌∙◌, subst}
 use mathlib.Core.Bool.{Bool, true, false, ◌||◌, or-false, or_assoc, cond}
 use mathlib.Core.List.{List, [], ◌∷◌, ◌++◌, append_assoc, append-nil}
@@ -8,8 +10,6 @@ use native.Mathlib.Numerals.{add-one}
 use native.Mathlib.Omega.{arith}
 use lib.ListN.{length, take, drop, length-append}
 use lib.Seq.{drop-drop, length-take-le}
-use Rattle.suites.specs.declared.refusal.Answer.{Answer}
-use Rattle.suites.specs.declared.refusal.Answer.TheVariants.{Done, Refused}
 use Rattle.suites.specs.Suite.{listed}
 use Rattle.fields.specs.Each.{Each, none, more, EachFrom, none_from, more_from}
 use Rattle.fields.specs.Kind.{Kind, WellFormed}
@@ -57,7 +57,7 @@ use Rattle.writer_calls.proofs.Put.{take_put, drop_put_lem, length_put}
 abbrev begun : Start → State
 begun s = record { writer = new_writer s.suite s.key s.number; buffer = put_at 0 (opening_fields s.suite s.number) s.buffer }
 
-start_done : (s : Start) → start_outcome s.suite (length s.key) (length s.buffer) ≡ Done
+start_done : (s : Start) → start_outcome s.suite (length s.key) (length s.buffer) ≡ Ok tt
 start_done s = told_done (start_outcome s.suite (length s.key) (length s.buffer)) s.accepted
 
 started_is : (s : Start) → started s ≡ begun s
@@ -173,8 +173,8 @@ module _ (kind : Kind) (s : Start) where
     answer-stands : (a : Answer) → outcome kind c e ≡ a
         → Stands (us ++ by_answer a (units_of c) []) (closed || by_answer a (is_close c) false) (ss ++ by_answer a (sealings_of kind c e.writer) [])
         (after_call kind c e)
-    answer-stands Done d = let b = brings kind e c k d in rw b.leaves (brings-stands c i b)
-    answer-stands (Refused why) d = rw (append-nil us, or-false closed, append-nil ss, refused kind e c d) i
+    answer-stands (Ok tt) d = let b = brings kind e c k d in rw b.leaves (brings-stands c i b)
+    answer-stands (Err why) d = rw (append-nil us, or-false closed, append-nil ss, refused kind e c d) i
 
     call-stands : Stands (us ++ by_answer (outcome kind c e) (units_of c) []) (closed || by_answer (outcome kind c e) (is_close c) false)
         (ss ++ by_answer (outcome kind c e) (sealings_of kind c e.writer) []) (after_call kind c e)
@@ -271,7 +271,7 @@ module _ (kind : Kind) (formed : WellFormed kind) where
         let long = book_long kind us in
         record { listed_suite = r.listed_suite; begun = r.begun; within = omega arith; count = omega arith; total = omega arith }
 
-    add_done : {u : BookUnit} {us : List BookUnit} → Allowed kind e.writer.count u → Ready (u ∷ us) e → outcome kind (add u) e ≡ Done
+    add_done : {u : BookUnit} {us : List BookUnit} → Allowed kind e.writer.count u → Ready (u ∷ us) e → outcome kind (add u) e ≡ Ok tt
     unfolding add_outcome book_length
     add_done {u} {us} a r =
         let range = range_told (length u.source) (length u.target) a.range in
@@ -307,7 +307,7 @@ module _ (kind : Kind) (formed : WellFormed kind) where
           unclosed = rw or-false r.unclosed;
         }
 
-    close-done : Ready [] e → outcome kind close e ≡ Done
+    close-done : Ready [] e → outcome kind close e ≡ Ok tt
     unfolding book_length
     close-done r =
         close_passes kind e.writer (length e.buffer)

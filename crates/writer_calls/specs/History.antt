@@ -1,8 +1,8 @@
 -- Lists of calls on a book: "The writer takes an add or a close and is handed back as it now is." Each step is by the definitions in the
 -- contracts of `start`, `add` and `close`.
+use Rattle.suites.specs.Answer.{Answer}
 use Rattle.std.specs.Prelude.{◌≡◌, Bool, true, false, ◌||◌, cond, List, [], ◌∷◌, ◌++◌, ℕ, ◌+◌, ◌^◌, ◌<◌, length}
 use Rattle.bits.specs.Bytes.{Bytes}
-use Rattle.suites.specs.declared.refusal.Answer.{Answer}
 use Rattle.suites.specs.declared.suite.Suite.{Suite}
 use Rattle.fields.specs.Kind.{Kind}
 use Rattle.format.specs.Sealings.{Sealing, close_sealing, unit_sealings}

@@ -1,12 +1,12 @@
 -- What is true of a call that passes its tests, and that a call passes where this is true.
+use Rattle.suites.specs.Answer.{Answer}
+use Rattle.std.specs.Prelude.{Ok}
 use mathlib.Core.Path.{◌≡◌, refl, ap}
 use mathlib.Core.Bool.{true, false, not, and-eq-true_iff}
 use mathlib.Core.List.{List}
 use Prim.Native.Nat.{ℕ, ◌+◌, ◌*◌, ◌≤◌, ◌<◌}
 use borrow.Author.Tests.{ltb-true, leb-true, eqb-true, not-true, lt-ltb, le-leb, eq-eqb}
 use lib.Dec.{eqb, leb, ltb}
-use Rattle.suites.specs.declared.refusal.Answer.{Answer}
-use Rattle.suites.specs.declared.refusal.Answer.TheVariants.{Done}
 use Rattle.suites.specs.declared.refusal.Refusal.TheVariants.{
   SuiteNotListed,
   KeyLength,
@@ -34,15 +34,15 @@ pub record Startable (suite : Suite) (k room : ℕ) : Type 0 where
   pub key : k ≡ 16
   pub enough : 16 ≤ room
 
-pub start_passed : (suite : Suite) (k room : ℕ) → start_outcome suite k room ≡ Done → Startable suite k room
+pub start_passed : (suite : Suite) (k room : ℕ) → start_outcome suite k room ≡ Ok tt → Startable suite k room
 unfolding start_outcome
 start_passed suite k room e =
     let listed = unless_passed (listed suite.cipher suite.steps) SuiteNotListed _ e in
     let key = unless_passed (eqb k 16) KeyLength _ listed.1 in
-    let enough = unless_passed (leb 16 room) OutputTooShort Done key.1 in
+    let enough = unless_passed (leb 16 room) OutputTooShort (Ok tt) key.1 in
     record { listed_suite = listed.0; key = eqb-true k 16 key.0; enough = leb-true 16 room enough.0 }
 
-pub start_passes : (suite : Suite) (k room : ℕ) → Startable suite k room → start_outcome suite k room ≡ Done
+pub start_passes : (suite : Suite) (k room : ℕ) → Startable suite k room → start_outcome suite k room ≡ Ok tt
 unfolding start_outcome
 start_passes suite k room s = simp (s.listed_suite, eq-eqb k 16 s.key, le-leb 16 room s.enough)
 
@@ -84,14 +84,14 @@ module _ (kind : Kind) (w : Writer) where
       )
 
   -- the tests that add and close have
-  pub writer_passed : (room : ℕ) (rest : Answer) → writer_tests kind w room rest ≡ Done → Valid kind w room × (w.closed ≡ false) × (rest ≡ Done)
+  pub writer_passed : (room : ℕ) (rest : Answer) → writer_tests kind w room rest ≡ Ok tt → Valid kind w room × (w.closed ≡ false) × (rest ≡ Ok tt)
   unfolding writer_tests
   writer_passed room rest e =
       let right = unless_passed (valid kind w room) WriterInvalid _ e in
       let unclosed = unless_passed (not w.closed) WriterClosed rest right.1 in
       (valid_told room right.0, not-true w.closed unclosed.0, unclosed.1)
 
-  pub writer_passes : (room : ℕ) (rest : Answer) → Valid kind w room → w.closed ≡ false → rest ≡ Done → writer_tests kind w room rest ≡ Done
+  pub writer_passes : (room : ℕ) (rest : Answer) → Valid kind w room → w.closed ≡ false → rest ≡ Ok tt → writer_tests kind w room rest ≡ Ok tt
   unfolding writer_tests
   writer_passes room rest v unclosed d =
       unless_passes (valid kind w room) WriterInvalid _ (valid_is room v)
@@ -109,7 +109,7 @@ pub record Addable (kind : Kind) (w : Writer) (from to : List ℕ) (s t room : �
   pub few : w.count < kind.unit_limit
   pub enough : w.place + unit_length kind s t ≤ room
 
-pub add_passed : (kind : Kind) (w : Writer) (from to : List ℕ) (s t room : ℕ) → add_tests kind w from to s t room ≡ Done
+pub add_passed : (kind : Kind) (w : Writer) (from to : List ℕ) (s t room : ℕ) → add_tests kind w from to s t room ≡ Ok tt
     → Addable kind w from to s t room
 unfolding add_tests
 add_passed kind w from to s t room e =
@@ -117,7 +117,7 @@ add_passed kind w from to s t room e =
     let languages = unless_passed (pair_allowed from to) LanguagesNotAllowed _ writer.2 in
     let range = unless_passed (in_range s t) SegmentLength _ languages.1 in
     let few = unless_passed (ltb w.count kind.unit_limit) TooManyUnits _ range.1 in
-    let enough = unless_passed (leb (w.place + unit_length kind s t) room) OutputTooShort Done few.1 in
+    let enough = unless_passed (leb (w.place + unit_length kind s t) room) OutputTooShort (Ok tt) few.1 in
     let told = range_told s t range.0 in
     record {
       valid = writer.0;
@@ -132,29 +132,29 @@ add_passed kind w from to s t room e =
     }
 
 pub add_passes : (kind : Kind) (w : Writer) (from to : List ℕ) (s t room : ℕ) → Addable kind w from to s t room
-    → add_tests kind w from to s t room ≡ Done
+    → add_tests kind w from to s t room ≡ Ok tt
 unfolding add_tests
 add_passes kind w from to s t room a =
     writer_passes kind w room _ a.valid a.unclosed
     (unless_passes (pair_allowed from to) LanguagesNotAllowed _ a.languages
     (unless_passes (in_range s t) SegmentLength _ a.range
     (unless_passes (ltb w.count kind.unit_limit) TooManyUnits _ (lt-ltb w.count kind.unit_limit a.few)
-    (unless_passes (leb (w.place + unit_length kind s t) room) OutputTooShort Done (le-leb (w.place + unit_length kind s t) room a.enough) refl))))
+    (unless_passes (leb (w.place + unit_length kind s t) room) OutputTooShort (Ok tt) (le-leb (w.place + unit_length kind s t) room a.enough) refl))))
 
 pub record Closable (kind : Kind) (w : Writer) (room : ℕ) : Type 0 where
   pub valid : Valid kind w room
   pub unclosed : w.closed ≡ false
   pub enough : w.place + close_length kind ≤ room
 
-pub close_passed : (kind : Kind) (w : Writer) (room : ℕ) → close_outcome kind w room ≡ Done → Closable kind w room
+pub close_passed : (kind : Kind) (w : Writer) (room : ℕ) → close_outcome kind w room ≡ Ok tt → Closable kind w room
 unfolding close_outcome
 close_passed kind w room e =
     let writer = writer_passed kind w room _ e in
-    let enough = unless_passed (leb (w.place + close_length kind) room) OutputTooShort Done writer.2 in
+    let enough = unless_passed (leb (w.place + close_length kind) room) OutputTooShort (Ok tt) writer.2 in
     record { valid = writer.0; unclosed = writer.1; enough = leb-true (w.place + close_length kind) room enough.0 }
 
-pub close_passes : (kind : Kind) (w : Writer) (room : ℕ) → Closable kind w room → close_outcome kind w room ≡ Done
+pub close_passes : (kind : Kind) (w : Writer) (room : ℕ) → Closable kind w room → close_outcome kind w room ≡ Ok tt
 unfolding close_outcome
 close_passes kind w room c =
     writer_passes kind w room _ c.valid c.unclosed
-    (unless_passes (leb (w.place + close_length kind) room) OutputTooShort Done (le-leb (w.place + close_length kind) room c.enough) refl)
+    (unless_passes (leb (w.place + close_length kind) room) OutputTooShort (Ok tt) (le-leb (w.place + close_length kind) room c.enough) refl)

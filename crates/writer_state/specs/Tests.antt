@@ -1,7 +1,6 @@
 -- What `start`, `add` and `close` answer. All but `start` go by the kind of book that the writer makes.
-use Rattle.std.specs.Prelude.{Bool, not, ◌&&◌, List, ℕ, ◌+◌, ◌*◌, eqb, leb, ltb, length}
-use Rattle.suites.specs.declared.refusal.Answer.{Answer}
-use Rattle.suites.specs.declared.refusal.Answer.TheVariants.{Done}
+use Rattle.suites.specs.Answer.{Answer}
+use Rattle.std.specs.Prelude.{Bool, not, ◌&&◌, List, ℕ, ◌+◌, ◌*◌, eqb, leb, ltb, length, Ok}
 use Rattle.suites.specs.declared.refusal.Refusal.TheVariants.{
   SuiteNotListed,
   KeyLength,
@@ -27,7 +26,7 @@ start_outcome suite k room =
     unless (listed suite.cipher suite.steps) SuiteNotListed
     (unless (eqb k 16) KeyLength
     (unless (leb 16 room) OutputTooShort
-    Done))
+    (Ok tt)))
 
 -- "writer with unlisted suite, place under 16 or past the buffer, count over 65,535, or call total over 1,024 × (count + 1): 9"; the limit of
 -- the count is the kind's
@@ -53,7 +52,7 @@ add_tests kind w from to s t room =
     (unless (in_range s t) SegmentLength
     (unless (ltb w.count kind.unit_limit) TooManyUnits
     (unless (leb (w.place + unit_length kind s t) room) OutputTooShort
-    Done))))
+    (Ok tt)))))
 
 unfoldable pub add_outcome : Kind → Writer → BookUnit → ℕ → Answer
 add_outcome kind w u room = add_tests kind w u.from u.to (length u.source) (length u.target) room
@@ -63,4 +62,4 @@ unfoldable pub close_outcome : Kind → Writer → ℕ → Answer
 close_outcome kind w room =
     writer_tests kind w room
     (unless (leb (w.place + close_length kind) room) OutputTooShort
-    Done)
+    (Ok tt))

@@ -8,7 +8,8 @@ use suites::suite::Suite;
 
 pub mod tests;
 
-// What a book's writer holds between calls. Any value of it is answered.
+// What a book's writer holds between calls. Any value of it is answered. C keeps it as 64 bytes and hands back any, so `closed` is a
+// field, and no type of its own. It holds the key, so it is neither printed nor compared.
 #[derive(Clone, Copy)]
 pub struct Writer {
     pub suite: Suite,

@@ -1,56 +1,56 @@
-// The refusals of start, and of add and close of a writer of a kind, in their order.
-ghost use Rattle.std.specs.Prelude.{◌≡◌};
-ghost use Rattle.suites.specs.declared.refusal.Answer.TheVariants.{Done};
+// The refusals of start, and of add and close of a writer of a kind, in their order. Kind, writer and room stand apart, as in the definitions
+// of these tests: a struct of the three would be no plainer, since it is made for one call and taken apart in each clause.
+ghost use Rattle.std.specs.Prelude.{◌≡◌, Ok};
 ghost use Rattle.kinds.specs.Kind.{kind_of};
 ghost use Rattle.writer_state.specs.Tests.{valid, start_outcome, writer_tests, add_tests, close_outcome};
 
 use crate::Writer;
 use kinds::Kind;
-use suites::refusal::{Answer, Refusal};
+use suites::refusal::Refusal;
 use suites::suite::Suite;
 
-pub fn start_tests(suite: Suite, key: usize, room: usize) -> Answer
+#[tactic(auto, unfolding(crate::specs::Tests::start_outcome))]
+pub fn start_tests(suite: Suite, key: usize, room: usize) -> Result<(), Refusal>
     ensures { result ≡ start_outcome suite key room }
 {
     if !suite.is_listed() {
-        return Answer::Refused(Refusal::SuiteNotListed);
+        return Err(Refusal::SuiteNotListed);
     }
     if key != 16 {
-        return Answer::Refused(Refusal::KeyLength);
+        return Err(Refusal::KeyLength);
     }
     if room < 16 {
-        return Answer::Refused(Refusal::OutputTooShort);
+        return Err(Refusal::OutputTooShort);
     }
-    Answer::Done
+    Ok(())
 }
 
 // Whether a writer's numbers go together, with a buffer of `room` bytes.
 fn is_valid(kind: Kind, w: Writer, room: usize) -> bool
     ensures { result ≡ valid (kind_of kind) w room }
 {
-    let suite = w.suite;
-    let place = w.place;
-    let count = w.count;
-    let total = w.total;
-    if kind.unit_limit() < count {
-        return false;
-    }
-    suite.is_listed() & (16 <= place) & (place <= room) & (total <= 1024 * (count + 1))
+    w.suite.is_listed()
+        && 16 <= w.place
+        && w.place <= room
+        && w.count <= kind.unit_limit()
+        && w.total <= 1024 * (w.count + 1)
 }
 
 // 9 and 10.
-fn writer_tests(kind: Kind, w: Writer, room: usize) -> Answer
-    ensures { result ≡ writer_tests (kind_of kind) w room Done }
+#[tactic(auto, unfolding(crate::specs::Tests::writer_tests))]
+fn writer_tests(kind: Kind, w: Writer, room: usize) -> Result<(), Refusal>
+    ensures { result ≡ writer_tests (kind_of kind) w room (Ok tt) }
 {
     if !is_valid(kind, w, room) {
-        return Answer::Refused(Refusal::WriterInvalid);
+        return Err(Refusal::WriterInvalid);
     }
     if w.closed {
-        return Answer::Refused(Refusal::WriterClosed);
+        return Err(Refusal::WriterClosed);
     }
-    Answer::Done
+    Ok(())
 }
 
+#[tactic(auto, using(crate::proofs::Order::after_writer), unfolding(crate::specs::Tests::add_tests))]
 pub fn add_tests(
     kind: Kind,
     w: Writer,
@@ -59,44 +59,32 @@ pub fn add_tests(
     s: usize,
     t: usize,
     room: usize,
-) -> Answer
+) -> Result<(), Refusal>
     ensures { result ≡ add_tests (kind_of kind) w from to s t room }
 {
-    let place = w.place;
-    let count = w.count;
-    let tested = writer_tests(kind, w, room);
-    match tested {
-        Answer::Refused(why) => Answer::Refused(why),
-        Answer::Done => {
-            if !fields::unit::is_pair(from, to) {
-                return Answer::Refused(Refusal::LanguagesNotAllowed);
-            }
-            if !fields::unit::in_range(s, t) {
-                return Answer::Refused(Refusal::SegmentLength);
-            }
-            if count == kind.unit_limit() {
-                return Answer::Refused(Refusal::TooManyUnits);
-            }
-            if room - place < kind.unit_room(s, t) {
-                return Answer::Refused(Refusal::OutputTooShort);
-            }
-            Answer::Done
-        }
+    writer_tests(kind, w, room)?;
+    if !fields::unit::is_pair(from, to) {
+        return Err(Refusal::LanguagesNotAllowed);
     }
+    if !fields::unit::in_range(s, t) {
+        return Err(Refusal::SegmentLength);
+    }
+    if w.count == kind.unit_limit() {
+        return Err(Refusal::TooManyUnits);
+    }
+    if room - w.place < kind.unit_room(s, t) {
+        return Err(Refusal::OutputTooShort);
+    }
+    Ok(())
 }
 
-pub fn close_tests(kind: Kind, w: Writer, room: usize) -> Answer
+#[tactic(auto, using(crate::proofs::Order::after_writer), unfolding(crate::specs::Tests::close_outcome))]
+pub fn close_tests(kind: Kind, w: Writer, room: usize) -> Result<(), Refusal>
     ensures { result ≡ close_outcome (kind_of kind) w room }
 {
-    let place = w.place;
-    let tested = writer_tests(kind, w, room);
-    match tested {
-        Answer::Refused(why) => Answer::Refused(why),
-        Answer::Done => {
-            if room - place < kind.close_len() {
-                return Answer::Refused(Refusal::OutputTooShort);
-            }
-            Answer::Done
-        }
+    writer_tests(kind, w, room)?;
+    if room - w.place < kind.close_len() {
+        return Err(Refusal::OutputTooShort);
     }
+    Ok(())
 }

@@ -1,19 +1,13 @@
--- A turn takes a digit from what is left of the number and counts it; one digit is left in the end.
-use Prim.Native.Nat.{◌/◌}
+-- The power of ten that the number reaches says how many digits it has.
+use mathlib.Core.Path.{◌≡◌, sym}
 use native.Mathlib.Omega.{arith}
-use Rattle.decimal.proofs.Digits.{length_one, length_more, digits_some, digits_u64}
+use Rattle.decimal.proofs.Digits.{length_one, length_power}
 use Rattle.decimal.proofs.count.Goals as goal
 
-pub overflow_add-k : goal.overflow_add-k
-overflow_add-k c =
-    let n = c.args.n in
-    let rest = c.loop-rest.rest in
-    omega (arith, digits_some (rest / 10), length_more rest (omega arith), digits_u64 n c.ranges.n.fits)
+pub returns-in-Some : goal.returns-in-Some
+returns-in-Some c = sym (length_power c.in-Some.k c.args.n c.in-Some.ensures.power_le c.in-Some.ensures.next_power_gt)
 
-pub loop-rest-preserved : goal.loop-rest-preserved
-loop-rest-preserved c =
-    omega (arith, length_more c.loop-rest.rest (omega arith))
-
-pub returns : goal.returns
-returns c =
-    omega (arith, length_one c.loop-rest.rest (omega arith))
+pub returns-in-None : goal.returns-in-None
+returns-in-None c =
+    let none : c.args.n ≡ 0 = c.in-None.ensures.none in
+    sym (length_one c.args.n (omega arith))

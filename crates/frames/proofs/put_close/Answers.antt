@@ -1,7 +1,8 @@
 -- The header, and the tag of an empty text behind it.
-use mathlib.Core.Path.{◌≡◌, refl}
+use mathlib.Core.Path.{◌≡◌, refl, ap, ◌∙◌}
 use Prim.Native.Nat.{◌+◌}
 use native.Mathlib.Omega.{arith}
+use lib.ListN.{length}
 use Rattle.fields.specs.Kind.{Kind}
 use Rattle.kinds.specs.Kind.{kind_of}
 use Rattle.kinds.specs.Lengths.{close_length}
@@ -15,12 +16,14 @@ pub returns : goal.returns
 unfolding close_bytes close_sealing tag_apart
 returns c =
     let a = c.args in
+    let w = a.w in
     let out = a.out.now in
-    let r = c.close_along-along.result in
-    let is = c.close_along-along.ensures in
+    let r = c.as_slice-header.result.now in
+    let along = c.close_along-along.ensures in
     let kind : Kind = kind_of a.kind in
     let n = c.close_header_len-h.result in
-    let long : r.len ≡ 16 + n = omega (arith, is.long, c.close_header_len-h.ensures.is) in
-    framed a.suite a.number n (close_header kind a.n) r is long a.key (close_sealing kind a.suite a.number a.n) refl c.nonce-last.ensures
+    let long : length r ≡ 16 + n = omega (arith, along.long, ap length c.as_slice-header.ensures, c.close_header_len-h.ensures.is) in
+    framed w.suite w.number n (close_header kind w.count) r (c.as_slice-header.ensures ∙ along.is) long w.key
+    (close_sealing kind w.suite w.number w.count) refl c.nonce-last.ensures
     out c.copy.new.d c.copy.ensures (tag_apart 0) 19 (close_length kind) (omega (arith, c.close_header_len-h.ensures.is))
     c.seal_here.ensures

@@ -7,11 +7,10 @@ use Rattle.plane_steps.proofs.turns.Goals as goal
 pub loop-i-preserved : goal.loop-i-preserved
 loop-i-preserved c =
     let a = c.args in (
-      omega arith,
       c.add_tweakey-in-loop-i.ensures.shape,
       λ z e.
-          turns_more a.ahead a.k a.n a.t.now a.u.now a.v.now c.loop-i.i c.step_at-s.ensures c.key_behind.ensures
-          (c.loop-i.invariant.2 z e) c.two_rounds.ensures c.add_tweakey-in-loop-i.ensures,
+          turns_more a.ahead a.k a.n a.tweakeys.now c.loop-i.i c.step_at-s.ensures c.key_behind.ensures
+          (c.loop-i.invariant.1 z e) c.two_rounds.ensures c.add_tweakey-in-loop-i.ensures,
     )
 
 pub returns : goal.returns
@@ -19,5 +18,5 @@ returns c =
     let a = c.args in
     let e : c.loop-i.i ≡ a.n = omega arith in
     rw e at
-    (c.loop-i.invariant.2 a.x.now
-    (turns_none a.ahead a.k a.n a.t.now a.u.now a.v.now c.key_before.ensures c.add_tweakey.ensures))
+    (c.loop-i.invariant.1 a.x.now
+    (turns_none a.ahead a.k a.n a.tweakeys.now c.key_before.ensures c.add_tweakey.ensures))

@@ -6,16 +6,14 @@ use Rattle.ranges.proofs.mark.Goals as goal
 
 pub loop-i-init : goal.loop-i-init
 loop-i-init c =
-    (omega arith, marked_none c.args.marks.now c.requires)
+    marked_none c.args.marks.now c.requires
 
 pub loop-i-preserved : goal.loop-i-preserved
 loop-i-preserved c =
-    let v = c.at.result in (
-      omega arith,
-      rw (take_next c.args.a.now c.loop-i.i v (omega arith) c.at.ensures.is)
-          (marked_more c.loop-i.invariant.1 v (omega (arith, c.at.ensures.small))),
-    )
+    let v = c.at.result in
+    rw (take_next c.args.a.now c.loop-i.i v (omega arith) c.at.ensures.is)
+    (marked_more c.loop-i.invariant v (omega (arith, c.at.ensures.small)))
 
 pub returns : goal.returns
 returns c =
-    rw (take_trigrams_all c.args.a.now c.loop-i.i (omega arith)) at c.loop-i.invariant.1
+    rw (take_trigrams_all c.args.a.now c.loop-i.i (omega arith)) at c.loop-i.invariant

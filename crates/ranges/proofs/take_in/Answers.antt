@@ -11,58 +11,37 @@ use Rattle.trigrams.proofs.Taken.{taken_nil}
 use Rattle.ranges.specs.Ranges.{held}
 use Rattle.ranges.proofs.Counts.{take_other, take_none, take_one_lem}
 use Rattle.ranges.proofs.take_in.Goals as goal
-
-pub loop-j-preserved-then-n-gt0 : goal.loop-j-preserved-then-n-gt0
-loop-j-preserved-then-n-gt0 c =
-    let a = c.args in
-    let v = c.at-v.result in
-    let y = drop (c.loop-j.j + 1) (trigrams a.b.now) in
-    let rest : drop c.loop-j.j (trigrams a.b.now) ≡ c.at-v.result ∷ y = drop_next a.b.now c.loop-j.j c.at-v.result (omega arith) c.at-v.ensures.is in (
-      omega arith,
-      omega arith,
-      length-set c.loop-j.counts (v % 4096) (get_or c.loop-j.counts (v % 4096) 0 - 1) ∙ c.loop-j.invariant.2,
-      omega (
-        arith,
-        c.loop-j.invariant.3,
-        ap (taken (held a.range c.loop-j.counts)) rest,
-        take_one_lem a.range c.loop-j.counts v y c.loop-j.invariant.2 c.if-v-range.true c.if-n-gt0.true,
-      ),
-    )
-
-pub loop-j-preserved-else-n-gt0 : goal.loop-j-preserved-else-n-gt0
-loop-j-preserved-else-n-gt0 c =
-    let a = c.args in
-    let y = drop (c.loop-j.j + 1) (trigrams a.b.now) in
-    let rest : drop c.loop-j.j (trigrams a.b.now) ≡ c.at-v.result ∷ y = drop_next a.b.now c.loop-j.j c.at-v.result (omega arith) c.at-v.ensures.is in (
-      omega arith,
-      omega arith,
-      c.loop-j.invariant.2,
-      omega (
-        arith,
-        c.loop-j.invariant.3,
-        ap (taken (held a.range c.loop-j.counts)) rest,
-        take_none a.range c.loop-j.counts c.at-v.result y c.if-v-range.true (omega arith),
-      ),
-    )
+use Rattle.ranges.proofs.take_in.Goals.{then-v-range+then-n-gt0, then-v-range+else-n-gt0, else-v-range}
 
 pub loop-j-preserved : goal.loop-j-preserved
 loop-j-preserved c =
-    let a = c.args in
-    let y = drop (c.loop-j.j + 1) (trigrams a.b.now) in
-    let rest : drop c.loop-j.j (trigrams a.b.now) ≡ c.at-v.result ∷ y = drop_next a.b.now c.loop-j.j c.at-v.result (omega arith) c.at-v.ensures.is in (
-      omega arith,
-      omega arith,
-      c.loop-j.invariant.2,
-      omega (
-        arith,
-        c.loop-j.invariant.3,
-        ap (taken (held a.range c.loop-j.counts)) rest,
-        take_other a.range c.loop-j.counts c.at-v.result y c.if-v-range.false,
-      ),
-    )
+    let range = c.args.range in
+    let counts = c.loop-j.counts in
+    let v = c.at-v.result in
+    let y = drop (c.loop-j.j + 1) (trigrams c.args.b.now) in
+    let rest : drop c.loop-j.j (trigrams c.args.b.now) ≡ c.at-v.result ∷ y =
+    drop_next c.args.b.now c.loop-j.j c.at-v.result (omega arith) c.at-v.ensures.is in
+    let all = ap (taken (held range counts)) rest in
+    let p = c.loop-j.invariant in
+    elim c.if-v-range.branch [
+      | then-v-range+then-n-gt0 w ↦ rw (w.counts-is, w.c-is) (record {
+        few = omega arith;
+        long = length-set counts (v % 4096) (get_or counts (v % 4096) 0 - 1) ∙ p.long;
+        all = omega (arith, p.all, all, take_one_lem range counts v y p.long w.if-v-range.true w.if-n-gt0.true);
+      })
+      | then-v-range+else-n-gt0 w ↦ rw (w.counts-is, w.c-is) (record {
+        few = omega arith;
+        long = p.long;
+        all = omega (arith, p.all, all, take_none range counts v y w.if-v-range.true (omega arith));
+      })
+      | else-v-range w ↦ rw (w.counts-is, w.c-is) (record {
+        few = omega arith;
+        long = p.long;
+        all = omega (arith, p.all, all, take_other range counts v y w.if-v-range.false);
+      })
+    ]
 
 pub returns : goal.returns
 returns c =
-    let a = c.args in
-    let m = held a.range c.loop-j.counts in
-    omega (arith, c.loop-j.invariant.3, ap (taken m) (drop_trigrams_all a.b.now c.loop-j.j (omega arith)), taken_nil m)
+    let m = held c.args.range c.loop-j.counts in
+    omega (arith, c.loop-j.invariant.all, ap (taken m) (drop_trigrams_all c.args.b.now c.loop-j.j (omega arith)), taken_nil m)

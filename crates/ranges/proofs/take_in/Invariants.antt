@@ -1,6 +1,6 @@
 -- The loop has taken c of the first j trigrams.
 use mathlib.Core.Path.{◌≡◌}
-use Prim.Native.Nat.{◌+◌, ◌-◌, ◌≤◌}
+use Prim.Native.Nat.{◌+◌, ◌≤◌}
 use lib.ListN.{length, drop}
 use Rattle.trigrams.specs.Trigrams.{trigrams}
 use Rattle.trigrams.specs.Taken.{taken}
@@ -8,9 +8,8 @@ use Rattle.ranges.specs.Ranges.{held}
 use Rattle.ranges.proofs.take_in.Given as goal
 
 abbrev pub invariant-loop-j : goal.invariant-loop-j
-invariant-loop-j l =
-    (l.j ≤ length l.b - 2) × (l.c ≤ l.j) × (length l.counts ≡ 4096)
-    × (l.c + taken (held l.range l.counts) (drop l.j (trigrams l.b)) ≡ taken (held l.range l.initial.counts) (trigrams l.b))
-
-abbrev pub decreases-loop-j : goal.decreases-loop-j
-decreases-loop-j l = length l.b - l.j
+invariant-loop-j l = record {
+  few : l.c ≤ l.j;
+  long : length l.counts ≡ 4096;
+  all : l.c + taken (held l.range l.counts) (drop l.j (trigrams l.b)) ≡ taken (held l.range l.initial.counts) (trigrams l.b);
+}

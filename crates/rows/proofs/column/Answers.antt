@@ -32,11 +32,11 @@ returns c =
     let w = a.out.now in
     let at = length w - c.count.result in
     let blanks_long : at ≡ length (take at w) = sym (length-take-le at w (omega arith)) in
-    let b = c.blanks.new.out in
+    let b = c.fill.new.self in
     let x = b ++ drop at w in
     let d = digits a.n in
     let some : at ≡ length w - length d = ap (λ (k : ℕ). length w - k) c.count.ensures in
-    let b-is : b ≡ replicate at 0x20 = c.blanks.ensures ∙ ap (λ (k : ℕ). replicate k 0x20) (sym blanks_long) in
+    let b-is : b ≡ replicate at 0x20 = c.fill.ensures.after (λ y e. e) ∙ ap (λ (k : ℕ). replicate k 0x20) (sym blanks_long) in
     let b-long : length b ≡ at = ap length b-is ∙ length-replicate {A = ℕ} at 0x20 in
     let fit : at + length d ≡ length w = omega (arith, c.count.ensures, c.requires) in
     let part = take (length x - at) (drop at x) in
@@ -44,5 +44,5 @@ returns c =
     let part-long : length part ≡ length w - at =
     length-take-le (length x - at) (drop at x) (rw length-drop (omega arith)) ∙ ap (λ (k : ℕ). k - at) x-long in
     let all : digits_within (length part) a.n ≡ d = digits_within_all (length part) a.n (omega (arith, part-long)) in
-    digits_last at 0 b w d c.put-k.new.out b-long fit (c.put-k.ensures.bytes ∙ ap (λ (s : List ℕ). s ++ drop (length s) part) all)
+    digits_last at 0 b w d c.put.new.out b-long fit (c.put.ensures.bytes ∙ ap (λ (s : List ℕ). s ++ drop (length s) part) all)
     ∙ (λ i. (b-is ∙ ap (λ (k : ℕ). replicate k 0x20) some) i ++ d)

@@ -5,6 +5,7 @@ use Prim.Native.Nat.{ℕ, ◌≤◌}
 use native.Mathlib.Omega.{arith}
 use lib.ListN.{length, take, drop, set, length-append, length-drop, length-set}
 use lib.Seq.{length-take-le}
+use Rattle.decimal.specs.Decimal.{digits}
 use Rattle.rows.specs.Row.{right_aligned, row_of}
 use Rattle.rows.proofs.Rows.{length_right_aligned, length_fits, score_fits, blanked, row_made}
 use Rattle.rows.proofs.put.Goals as goal
@@ -36,7 +37,7 @@ column-requires-2 c =
     let w = c.args.out.now in
     let b = c.column.new.out in
     let long : length b ≡ 5 = first_long w b c.args.len p.2 p.0 c.column.ensures in
-    omega (arith, score_fits c.args.score p.1, four (b ++ drop 5 w) (x_long w b p.2 long))
+    omega (arith, ap (λ k. length (digits k)) c.from.ensures, score_fits c.args.score p.1, four (b ++ drop 5 w) (x_long w b p.2 long))
 
 pub returns : goal.returns
 unfolding row_of
@@ -47,7 +48,8 @@ returns c =
     let first : b ≡ right_aligned 5 c.args.len = c.column.ensures ∙ ap (λ (k : ℕ). right_aligned k c.args.len) (sym (five w p.2)) in
     let long : length b ≡ 5 = first_long w b c.args.len p.2 p.0 c.column.ensures in
     let second : c.column-2.new.out ≡ right_aligned 4 c.args.score =
-    c.column-2.ensures ∙ ap (λ (k : ℕ). right_aligned k c.args.score) (four (b ++ drop 5 w) (x_long w b p.2 long)) in
+    c.column-2.ensures
+    ∙ (λ i. right_aligned (four (b ++ drop 5 w) (x_long w b p.2 long) i) (c.from.ensures i)) in
     let second_long : length c.column-2.new.out ≡ 4 = ap length second ∙ length_right_aligned 4 c.args.score (score_fits c.args.score p.1) in
     row_made b (drop 5 w) c.column-2.new.out long (length-drop 5 w ∙ omega arith) second_long
     ∙ (λ i. first i ++ (0x20 ∷ 0x20 ∷ (second i ++ 0x0A ∷ [])))

@@ -3,17 +3,21 @@ use mathlib.Core.Bool.{true, false}
 use Prim.Native.Nat.{ℕ, ◌+◌, ◌-◌, ◌*◌, ◌/◌}
 use native.Mathlib.Omega.{arith}
 use lib.ListN.{length}
+use Rattle.std.proofs.lemmas.Bool.Decides.{Decides-eqb}
+use Rattle.std.proofs.lemmas.Slice.Eq.{slice_eq-Decides}
+use Rattle.score.proofs.Laws.{equal_decided}
 use Rattle.score.proofs.Quotients.{quotient_le}
 use Rattle.score.proofs.Scores.{score_none, score_some, shared_twice}
 use Rattle.score.proofs.score_by.Goals as goal
 
-pub returns-then-is_equal : goal.returns-then-is_equal
-returns-then-is_equal c =
+pub returns-then-eq : goal.returns-then-eq
+returns-then-eq c =
     let a = c.args in
     let sum : c.number_in.result + c.number_in-2.result ≡ length a.a.now - 2 + (length a.b.now - 2) =
     omega (arith, c.number_in.ensures, c.number_in-2.ensures) in
-    let z = sym sum ∙ c.if-n-eq0.true in (
-      sym (score_none a.a.now a.b.now z true (sym c.is_equal.ensures ∙ c.if-is_equal.true)),
+    let z = sym sum ∙ c.if-n-eq0.true in
+    let found = slice_eq-Decides Decides-eqb a.a.now a.b.now true (sym c.if-eq.true ∙ c.eq.ensures) in (
+      sym (score_none a.a.now a.b.now z true (equal_decided a.a.now a.b.now true found)),
       omega arith,
     )
 
@@ -22,8 +26,9 @@ returns-then-n-eq0 c =
     let a = c.args in
     let sum : c.number_in.result + c.number_in-2.result ≡ length a.a.now - 2 + (length a.b.now - 2) =
     omega (arith, c.number_in.ensures, c.number_in-2.ensures) in
-    let z = sym sum ∙ c.if-n-eq0.true in (
-      sym (score_none a.a.now a.b.now z false (sym c.is_equal.ensures ∙ c.if-is_equal.false)),
+    let z = sym sum ∙ c.if-n-eq0.true in
+    let found = slice_eq-Decides Decides-eqb a.a.now a.b.now false (sym c.if-eq.false ∙ c.eq.ensures) in (
+      sym (score_none a.a.now a.b.now z false (equal_decided a.a.now a.b.now false found)),
       omega arith,
     )
 

@@ -11,9 +11,9 @@ use Rattle.seals.proofs.close_parts.Goals as goal
 
 pub parts_at-requires : goal.parts_at-requires
 parts_at-requires c =
-    let t = close_told (kind_of c.args.kind) c.args.n c.args.s.now c.requires.1 in
+    let t = close_told (kind_of c.args.r.now.kind) c.args.n c.args.s.now c.requires in
     let h = c.close_header_len-h.ensures in (
-      c.requires.0,
+      c.args.r.now.under.opening_long,
       record {
         short = omega arith;
         within = omega (arith, t.length_is);
@@ -27,7 +27,8 @@ pub returns : goal.returns
 unfolding close_along
 returns c =
     let a = c.args in
+    let r = a.r.now in
     parts_same
-    (ap (λ n. a.front.now ++ take n a.s.now) c.close_header_len-h.ensures.is)
-    (close_sealed_is (kind_of a.kind) a.s.now c.close_header_len-h.result c.close_header_len-h.ensures.is)
+    (ap (λ n. r.front.now ++ take n a.s.now) c.close_header_len-h.ensures.is)
+    (close_sealed_is (kind_of r.kind) a.s.now c.close_header_len-h.result c.close_header_len-h.ensures.is)
     c.parts_at.ensures

@@ -16,15 +16,13 @@ loop-i-preserved c =
     let x = h.args.d.now in
     let y = h.args.b in
     let l : i < length (added x y) = omega (arith, length_added x y (omega arith)) in
-    let read : get_or h.loop-i.d i 0 ≡ get_or x i 0 = ap (λ d. get_or d i 0) h.loop-i.invariant.1 ∙ front_next x (added x y) i (omega arith) l in (
-      omega arith,
-      (λ j. set (h.loop-i.invariant.1 j) i ((ap (λ v. bit_xor v (get_or y i 0)) read ∙ sym (get_or_added x y i (omega arith) (omega arith))) j))
-          ∙ front_more x (added x y) i (omega arith) l,
-    )
+    let read : get_or h.loop-i.d i 0 ≡ get_or x i 0 = ap (λ d. get_or d i 0) h.loop-i.invariant ∙ front_next x (added x y) i (omega arith) l in
+    (λ j. set (h.loop-i.invariant j) i ((ap (λ v. bit_xor v (get_or y i 0)) read ∙ sym (get_or_added x y i (omega arith) (omega arith))) j))
+    ∙ front_more x (added x y) i (omega arith) l
 
 pub returns : goal.returns
 returns c =
     let x = c.args.d.now in
     let y = c.args.b in
     let l : length (added x y) ≡ length x = length_added x y (omega arith) in
-    c.loop-i.invariant.1 ∙ front_whole x (added x y) c.loop-i.i (omega arith) (sym l)
+    c.loop-i.invariant ∙ front_whole x (added x y) c.loop-i.i (omega arith) (sym l)

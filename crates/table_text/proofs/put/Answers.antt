@@ -8,4 +8,4 @@ use Rattle.table_text.proofs.put.Goals as goal
 pub returns : goal.returns
 returns c =
     let e : c.loop-i.i ≡ 256 = omega arith in
-    filled_all (rw e at c.loop-i.invariant.1) ∙ by_bytes c.args.table.now
+    filled_all (rw e at c.loop-i.invariant) ∙ by_bytes c.args.table.now

@@ -1,11 +1,8 @@
 -- The loop has done the first blocks, at most 64 at each turn.
 use mathlib.Core.Path.{◌≡◌}
-use Prim.Native.Nat.{◌+◌, ◌-◌, ◌*◌, ◌/◌, ◌≤◌}
+use Prim.Native.Nat.{◌*◌, min}
 use Rattle.text_blocks.specs.Under.{first_blocks}
 use Rattle.text_blocks.proofs.blocks.Given as goal
 
-abbrev pub invariant-loop-at : goal.invariant-loop-at
-invariant-loop-at l = (l.at ≤ l.end) × (l.at ≡ 16 * (l.at / 16)) × (l.next.0 ≡ l.initial.next.0 + l.at / 16) × (l.s ≡ first_blocks l.ahead l.suite l.key l.nonce l.initial.next.0 (l.at / 16) l.initial.s)
-
-abbrev pub decreases-loop-at : goal.decreases-loop-at
-decreases-loop-at l = l.end - l.at
+abbrev pub invariant-loop-i : goal.invariant-loop-i
+invariant-loop-i l = l.s ≡ first_blocks l.ahead l.u.suite l.u.key l.u.nonce.now l.first.0 (min (64 * l.i) l.n) l.initial.s

@@ -1,16 +1,11 @@
--- A listed suite is never refused, and one block is one of many.
-use mathlib.Core.Path.{ap, ◌∙◌}
-use mathlib.Core.Bool.{cond}
+-- One block is one of many.
+use mathlib.Core.Path.{◌∙◌}
 use native.Mathlib.Omega.{arith}
-use Rattle.cipher.specs.Entry.{enciphered}
-use Rattle.cipher.proofs.Entries.{enciphered_one}
+use Rattle.blockwise.proofs.Each.{each_one}
 use Rattle.text_blocks.specs.Under.{enciphers}
 use Rattle.text_blocks.proofs.encipher_one.Goals as goal
 
 pub returns : goal.returns
-unfolding enciphered
 returns c =
     let a = c.args in
-    c.encipher_blocks.ensures.1
-    ∙ enciphered_one a.suite.cipher a.suite.steps a.key a.tweak a.block (omega arith) (omega arith)
-    ∙ ap (λ l. cond l (enciphers a.suite a.key a.tweak a.block) a.block) c.requires
+    c.cipher_blocks.ensures ∙ each_one (enciphers a.u.now.suite a.u.now.key) a.tweak a.block (omega arith) (omega arith)

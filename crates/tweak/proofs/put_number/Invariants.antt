@@ -10,6 +10,3 @@ abbrev pub invariant-loop-i : goal.invariant-loop-i
 invariant-loop-i l =
     (l.n ≤ l.i) × (l.i ≤ 16) × (l.x ≡ l.number / 256 ^ (16 - l.i))
     × (l.d ≡ take (l.at + l.i) l.initial.d ++ (big_endian (16 - l.i) l.number ++ drop (l.at + 16) l.initial.d))
-
-abbrev pub decreases-loop-i : goal.decreases-loop-i
-decreases-loop-i l = l.i - l.n

@@ -4,7 +4,6 @@ use mathlib.Core.Bool.{not}
 use mathlib.Core.List.{List}
 use Prim.Native.Nat.{ℕ}
 use native.Mathlib.Nat.{le_refl}
-use borrow.Author.Rules.{rules}
 use lib.Dec.{eqb}
 use lib.ListN.{get_or, take, drop}
 use lib.Seq.{take-take}
@@ -21,10 +20,10 @@ returns c =
     let b = c.args.b in
     λ i. record {
       suite = record { cipher = get_or b 0 0; steps = get_or b 1 0 };
-      key = c.block_at-key.ensures i;
-      number = eight (drop 8 b) c.of-number.ensures i;
-      place = eight (drop 32 b) c.of-place.ensures i;
-      count = eight (drop 40 b) c.of-count.ensures i;
-      total = eight (drop 48 b) c.of-total.ensures i;
+      key = c.block_at.ensures i;
+      number = eight (drop 8 b) c.of.ensures i;
+      place = eight (drop 32 b) c.of-2.ensures i;
+      count = eight (drop 40 b) c.of-3.ensures i;
+      total = eight (drop 48 b) c.of-4.ensures i;
       closed = not (eqb (get_or b 2 0) 1);
     }

@@ -1,5 +1,8 @@
 -- A header of many blocks is added up by itself, and its sum is added to the tag.
 use mathlib.Core.Path.{◌∙◌}
+use Prim.Native.Nat.{◌+◌, ◌*◌}
+use native.Mathlib.Omega.{arith}
+use lib.ListN.{length}
 use Rattle.bits.specs.Bytes.{added}
 use Rattle.calls.specs.Pieces.{header_sum}
 use Rattle.text_blocks.specs.Under.{enciphers}
@@ -10,11 +13,11 @@ use Rattle.batch.proofs.sealing.rest.Goals as goal
 pub returns : goal.returns
 returns c =
     let a = c.args in
-    let e = enciphers a.suite a.key in
-    let sum = header_sum e a.nonce.now a.header.now in (
+    let S = a.u.now.setting in
+    let e = enciphers S.suite S.key in (
       c.add.ensures
           ∙ (λ j. added (c.run-tag.ensures.0 j) (c.sum-sum.ensures j))
-          ∙ tag_later e (enciphers_blockwise a.suite a.key) a.nonce.now c.requires.0.short a.m a.checksum sum
-          c.well_formed.1.1.1.1.1.0.1.0.1,
+          ∙ tag_later e (enciphers_blockwise S.suite S.key) S.nonce.now S.nonce_short (16 * a.first.0 + length a.s.now) a.checksum
+          (header_sum e S.nonce.now a.u.now.header.now) (omega arith),
       c.run-tag.ensures.1,
     )

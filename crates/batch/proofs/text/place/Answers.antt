@@ -16,7 +16,7 @@ use Rattle.batch.proofs.text.place.Goals as goal
 pub returns-then-n-eq0 : goal.returns-then-n-eq0
 returns-then-n-eq0 c =
     let a = c.args in
-    placed_none a.m a.first.0 a.s.now a.outcomes.now c.if-n-eq0.true
+    placed_none a.s.now a.outcomes.now c.if-n-eq0.true
 
 pub returns : goal.returns
 returns c =
@@ -38,4 +38,4 @@ returns c =
     c.add_to.ensures ∙ (λ j. added (left j) (c.block_at.ensures j)) in
     (λ j. (take_at R (drop at s) at lr ∙ made ∙ front_strung k o (omega arith)) j ++ (new j ++ part_none at W j))
     ∙ ap (λ (l : List ℕ). strung k (block o) ++ l) (append-nil (added (drop at s) (block o k)))
-    ∙ placed_is a.m a.first.0 s c.requires.0 k (omega arith) o
+    ∙ placed_is s o k (omega arith)

@@ -7,4 +7,4 @@ use Rattle.cipher.proofs.block.step.Goals as goal
 pub returns : goal.returns
 returns c =
     let a = c.args in
-    c.run_ahead.ensures ∙ stepped_run a.done a.tweak a.block (omega arith) (omega arith) a.cipher a.key
+    c.run.ensures ∙ stepped_run a.done a.tweak a.block (omega arith) (omega arith) a.cipher a.key

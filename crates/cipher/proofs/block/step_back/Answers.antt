@@ -7,4 +7,4 @@ use Rattle.cipher.proofs.block.step_back.Goals as goal
 pub returns : goal.returns
 returns c =
     let a = c.args in
-    c.run_back.ensures ∙ unstepped_run a.done a.tweak a.block (omega arith) (omega arith) a.cipher a.key
+    c.run.ensures ∙ unstepped_run a.done a.tweak a.block (omega arith) (omega arith) a.cipher a.key

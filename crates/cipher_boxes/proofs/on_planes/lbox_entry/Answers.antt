@@ -13,7 +13,7 @@ use Rattle.cipher_boxes.proofs.on_planes.lbox_entry.Goals as goal
 pub returns : goal.returns
 unfolding plane_lbox_entry
 returns c =
-    let a = c.args in
+    let t = c.args.t in
     let planes = c.row_alone.ensures ∙ ap (λ (x : ℕ). tab 16 (bit x)) c.in_half.ensures in
-    let y = c.network-y.ensures ∙ ap (times_at 64 (lbox_in a.k a.d)) planes in
-    c.half_of.ensures ∙ ap (half_of a.to) (c.first_row.ensures ∙ ap (λ (r : List ℕ). row_at r 0) y)
+    let y = c.network-y.ensures ∙ ap (times_at 64 (lbox_in t.cipher t.direction)) planes in
+    c.half_of.ensures ∙ ap (half_of t.to) (c.first_row.ensures ∙ ap (λ (r : List ℕ). row_at r 0) y)

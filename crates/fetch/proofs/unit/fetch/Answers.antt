@@ -1,9 +1,9 @@
 -- The tests, then the walk, then what stands where it ends.
+use Rattle.std.specs.Prelude.{Ok, Err}
 use mathlib.Core.Path.{◌≡◌, refl, sym, ap, ◌∙◌}
 use Prim.Native.Nat.{◌+◌, ◌-◌, ◌≤◌}
 use borrow.Author.Rules.{rules}
 use lib.ListN.{length, take, drop, length-drop}
-use Rattle.suites.specs.declared.refusal.Answer.TheVariants.{Done, Refused}
 use Rattle.kinds.specs.Kind.{kind_of, book_kind}
 use Rattle.parser.specs.Frame.{frame_at}
 use Rattle.opening_fields.specs.Opening.{opening_bytes, after_opening}
@@ -13,50 +13,75 @@ use Rattle.walk.specs.Walk.{walk_to}
 use Rattle.walk.proofs.Places.{walked_within}
 use Rattle.fetch.specs.Fetch.{outcome_here, text_at, next_of, fetch_answer, fetch_buffer}
 use Rattle.fetch.proofs.Handed.{hands_same, hands_without, ends_at, there, tests_fetch}
+use Rattle.std.proofs.lemmas.Result.{err_from_is_err_and}
+use mathlib.Core.List.{List}
+use Prim.Native.Nat.{ℕ}
+use Rattle.seals.specs.declared.reading.Reading.{Reading}
+use Rattle.seals.specs.Reading.{ReadingOf}
+use Rattle.opening_fields.specs.Opening.{check_tests}
+use Rattle.walk.specs.declared.Place.{Place}
+use Rattle.fetch.specs.Fetch.{FetchAnswer, PlacedAnswer}
+use Rattle.fetch.specs.Hands.{HandsNext, without_next}
 use Rattle.fetch.proofs.unit.fetch.Goals as goal
 
+-- what stands where the walk ends, without the place of the next unit
+by_walk : (key s : List ℕ) (k : ℕ) (o : List ℕ) (b : Reading) (p : Place) {r : PlacedAnswer} {left : List ℕ} {q : FetchAnswer}
+    → check_tests (length key) s ≡ Ok tt → ReadingOf key s b → p ≡ walk_to (kind_of b.kind) k (take (length s - 16) (drop 16 s))
+    → HandsNext (outcome_here (kind_of b.kind) b.key.now b.front.now p.number (drop (16 + p.at) s) (length o))
+    (text_at (kind_of b.kind) b.key.now b.front.now p.number (drop (16 + p.at) s))
+    (next_of (kind_of b.kind) (16 + p.at) (frame_at (kind_of b.kind) p.number (drop (16 + p.at) s))) o r left
+    → q ≡ without_next r → (q ≡ fetch_answer key s k o) × (left ≡ fetch_buffer key s k o)
+unfolding fetch_answer fetch_buffer after_opening
+by_walk key s k o b p done made walk h e =
+    let own = kind_of (book_kind s) in
+    let end = ends_at own key s k in
+    let same = there own key s k in
+    let walked : p ≡ end = walk ∙ (λ i. walk_to (kind_of (made.kind_is i)) k (part_rest 16 s i)) in
+    tests_fetch own key s k o (Ok tt) done
+    (hands_same o
+    ((λ i. outcome_here (kind_of (made.kind_is i)) (made.key_is i) (made.front_is i) (walked i).number (drop (16 + (walked i).at) s) (length o))
+    ∙ ap (λ y. outcome_here own key (opening_bytes s) end.number y (length o)) same)
+    ((λ i. text_at (kind_of (made.kind_is i)) (made.key_is i) (made.front_is i) (walked i).number (drop (16 + (walked i).at) s))
+    ∙ ap (text_at own key (opening_bytes s) end.number) same)
+    (hands_without
+    (outcome_here (kind_of b.kind) b.key.now b.front.now p.number (drop (16 + p.at) s) (length o))
+    (text_at (kind_of b.kind) b.key.now b.front.now p.number (drop (16 + p.at) s)) o
+    (next_of (kind_of b.kind) (16 + p.at) (frame_at (kind_of b.kind) p.number (drop (16 + p.at) s))) h e))
+
 pub slice_bounds-to-count : goal.slice_bounds-to-count
-slice_bounds-to-count c = (tested_under c.args.key.now c.args.book.now (sym c.in-Done.ensures)).0
+slice_bounds-to-count c = (tested_under c.args.key.now c.args.book.now (sym c.in_ok-r.ensures.tests)).0
 
 pub slice_bounds-to-start : goal.slice_bounds-to-start
-slice_bounds-to-start c = let h = (tested_under c.args.key.now c.args.book.now (sym c.in-Done.ensures)).0 in search rules
+slice_bounds-to-start c = let h = (tested_under c.args.key.now c.args.book.now (sym c.in_ok-r.ensures.tests)).0 in search rules
 
-pub overflow_add-at : goal.overflow_add-at
-overflow_add-at c =
+pub overflow_add-p : goal.overflow_add-p
+overflow_add-p c =
     let s = c.args.book.now in
-    let r = take (length s - 16) (drop 16 s) in
-    let h : c.to-p.result.at ≤ length r = rw c.to-p.ensures (walked_within (kind_of c.of_book-kind.result) r c.args.k) in
+    let y = take (length s - 16) (drop 16 s) in
+    let h : c.to-p.result.at ≤ length y = rw c.to-p.ensures (walked_within (kind_of c.in_ok-r.r.kind) y c.args.k) in
     let d = ap length (part_rest 16 s) ∙ length-drop 16 s in
-    let l = (tested_under c.args.key.now s (sym c.in-Done.ensures)).0 in
+    let l = (tested_under c.args.key.now s (sym c.in_ok-r.ensures.tests)).0 in
     search rules
 
-pub returns-in-Refused : goal.returns-in-Refused
+pub returns-in_err-r : goal.returns-in_err-r
 unfolding fetch_answer fetch_buffer
-returns-in-Refused c =
+returns-in_err-r c =
     let a = c.args in
-    tests_fetch (kind_of (book_kind a.book.now)) a.key.now a.book.now a.k a.out.now (Refused c.in-Refused.why)
-    (sym c.in-Refused.ensures) (refl, refl)
+    let p = err_from_is_err_and c.from_residual.result c.from_residual.ensures.1 in
+    rw (p.1, p.2)
+    (tests_fetch (kind_of (book_kind a.book.now)) a.key.now a.book.now a.k a.out.now (Err c.in_err-r.field-0.0)
+    (sym c.in_err-r.ensures.tests) (refl, refl))
 
-pub returns-in-Done : goal.returns-in-Done
-unfolding fetch_answer fetch_buffer after_opening
-returns-in-Done c =
+pub returns-in_err-fetched : goal.returns-in_err-fetched
+returns-in_err-fetched c =
     let a = c.args in
-    let o = a.out.now in
-    let s = a.book.now in
-    let kind = kind_of (book_kind s) in
-    let end = ends_at kind a.key.now s a.k in
-    let same = there kind a.key.now s a.k in
-    let walked : c.to-p.result ≡ end = c.to-p.ensures ∙ (λ i. walk_to (kind_of (c.of_book-kind.ensures i)) a.k (part_rest 16 s i)) in
-    let n = c.to-p.result.number in
-    let at = 16 + c.to-p.result.at in
-    let read = kind_of c.of_book-kind.result in
-    tests_fetch kind a.key.now s a.k o Done (sym c.in-Done.ensures)
-    (hands_same o
-    ((λ i. outcome_here (kind_of (c.of_book-kind.ensures i)) a.key.now (opening_bytes s) (walked i).number (drop (16 + (walked i).at) s) (length o))
-    ∙ ap (λ y. outcome_here kind a.key.now (opening_bytes s) end.number y (length o)) same)
-    ((λ i. text_at (kind_of (c.of_book-kind.ensures i)) a.key.now (opening_bytes s) (walked i).number (drop (16 + (walked i).at) s))
-    ∙ ap (text_at kind a.key.now (opening_bytes s) end.number) same)
-    (hands_without
-    (outcome_here read a.key.now (opening_bytes s) n (drop at s) (length o)) (text_at read a.key.now (opening_bytes s) n (drop at s)) o
-    (next_of read at (frame_at read n (drop at s)))
-    c.at_place.ensures c.without_next.ensures))
+    let p = err_from_is_err_and c.from_residual-in_err-fetched.result c.from_residual-in_err-fetched.ensures.1 in
+    rw (p.1, p.2)
+    (by_walk a.key.now a.book.now a.k a.out.now c.in_ok-r.r c.to-p.result (sym c.in_ok-r.ensures.tests) c.in_ok-r.ensures.made
+    c.to-p.ensures c.at_place.ensures (ap without_next (sym c.in_err-fetched.was)))
+
+pub returns : goal.returns
+returns c =
+    let a = c.args in
+    by_walk a.key.now a.book.now a.k a.out.now c.in_ok-r.r c.to-p.result (sym c.in_ok-r.ensures.tests) c.in_ok-r.ensures.made
+    c.to-p.ensures c.at_place.ensures (ap without_next (sym c.in_ok-fetched.was))

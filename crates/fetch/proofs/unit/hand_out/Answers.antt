@@ -1,4 +1,5 @@
 -- The range, the room, then the copy.
+use Rattle.fetch.specs.Fetch.{fetched_lengths}
 use mathlib.Core.Path.{◌≡◌, sym, ap, ◌∙◌}
 use mathlib.Core.List.{◌++◌}
 use Prim.Native.Nat.{ℕ, ◌+◌, ◌-◌, ◌*◌, ◌≤◌}
@@ -6,7 +7,6 @@ use lib.ListN.{length, drop}
 use Rattle.fields.specs.Unit.{source_length, text_in_range}
 use Rattle.seals.proofs.Verified.{stated}
 use Rattle.bits.proofs.Lists.{part_rest}
-use Rattle.fetch.specs.declared.unit.FetchAnswer.TheVariants.{Fetched}
 use Rattle.fetch.proofs.Handed.{hands_refused, not_text, no_room, text_hands}
 use mathlib.Core.Bool.{Bool}
 use mathlib.Core.List.{List}
@@ -35,6 +35,6 @@ returns c =
     let t = c.args.text.now in
     let out = c.args.out.now in
     let h = text_hands t out (tested t c.is_text.result c.requires c.is_text.ensures ∙ c.if-not-is_text.false) c.if-out-m.false in (
-      ap (λ s. Fetched s (length t - 2 - s)) (c.pair-s.ensures ∙ stated t c.requires) ∙ h.0,
+      ap (λ s. fetched_lengths s (length t - 2 - s)) (c.pair-s.ensures ∙ stated t c.requires) ∙ h.0,
       c.copy.ensures ∙ ap (λ r. r ++ drop (length r) out) (part_rest 2 t) ∙ h.1,
     )

@@ -8,6 +8,3 @@ use Rattle.fields.proofs.number.put.Given as goal
 
 abbrev pub invariant-loop-i : goal.invariant-loop-i
 invariant-loop-i l = (l.i ≤ l.initial.i) × (l.x ≡ l.v / 256 ^ (l.initial.i - l.i)) × (l.out ≡ take l.i l.initial.out ++ big_endian (l.initial.i - l.i) l.v)
-
-abbrev pub decreases-loop-i : goal.decreases-loop-i
-decreases-loop-i l = l.i

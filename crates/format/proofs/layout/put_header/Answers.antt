@@ -2,7 +2,6 @@
 use mathlib.Core.Path.{◌≡◌, refl, sym, ap, ◌∙◌}
 use mathlib.Core.List.{List, ◌++◌}
 use Prim.Native.Nat.{ℕ, ◌+◌}
-use borrow.Author.Rules.{rules}
 use lib.ListN.{length, drop, length-append}
 use Rattle.bits.specs.Bytes.{big_endian}
 use Rattle.bits.proofs.BigEndian.{length_big_endian}

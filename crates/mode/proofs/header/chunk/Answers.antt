@@ -2,7 +2,8 @@
 use mathlib.Core.Path.{◌∙◌}
 use Prim.Native.Nat.{◌*◌}
 use lib.ListN.{take}
-use Rattle.cipher.specs.Entry.{enciphered_blocks}
+use Rattle.blockwise.specs.Blocks.{each_block}
+use Rattle.text_blocks.specs.Under.{enciphers}
 use Rattle.mode.proofs.Headers.{chunk_sum}
 use Rattle.mode.proofs.header.chunk.Goals as goal
 
@@ -10,6 +11,6 @@ pub returns : goal.returns
 returns c =
     let a = c.args in
     c.add_blocks.ensures
-    ∙ chunk_sum a.suite a.key c.requires.0 a.first.0 a.k a.header.now a.sum c.requires.2 _ _ _
-    (c.encipher_blocks.ensures.1
-    ∙ (λ j. enciphered_blocks a.suite.cipher a.suite.steps a.key (take (16 * a.k) (c.header_tweaks.ensures j)) (c.copy.ensures j)))
+    ∙ chunk_sum a.u.now.suite a.u.now.key (record { suite = a.u.now.suite_listed; short = a.u.now.nonce_short }) a.first.0 a.k a.header.now a.sum c.requires.1 _ _ _
+    (c.cipher_blocks.ensures
+    ∙ (λ j. each_block (enciphers a.u.now.suite a.u.now.key) (take (16 * a.k) (c.header_tweaks.ensures j)) (c.copy.ensures j)))

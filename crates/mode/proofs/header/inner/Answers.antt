@@ -1,34 +1,48 @@
--- The loop has added the blocks before the next.
-use mathlib.Core.Path.{sym, ap, ◌∙◌}
+-- The loop has added the first blocks, at most 64 at each turn.
+use mathlib.Core.Path.{◌≡◌, ap, ◌∙◌}
 use mathlib.Core.List.{List}
-use Prim.Native.Nat.{ℕ}
+use Prim.Native.Nat.{ℕ, ◌+◌, ◌-◌, ◌*◌, ◌<◌, min}
 use native.Mathlib.Omega.{arith}
-use borrow.Author.Rules.{rules}
-use Rattle.suites.specs.declared.suite.Suite.{Suite}
+use lib.ListN.{length, take, drop}
+use Rattle.std.proofs.lemmas.Grind.{common_steps}
 use Rattle.calls.specs.Calls.{sum_of}
 use Rattle.calls.specs.Tweak.{header_tweak}
 use Rattle.blockwise.specs.Blocks.{block}
+use Rattle.sums.specs.Sums.{sum_from}
 use Rattle.text_blocks.specs.Under.{enciphers}
 use Rattle.mode.proofs.Headers.{sum_chunk}
 use Rattle.mode.proofs.header.inner.Goals as goal
 
-abbrev summed : Suite → List ℕ → List ℕ → List ℕ → ℕ → List ℕ
-summed suite key nonce header m = sum_of m (λ i. enciphers suite key (header_tweak nonce i) (block header i))
-
-pub loop-at-init : goal.loop-at-init
+pub loop-i-init : goal.loop-i-init
 unfolding sum_of
-loop-at-init c =
+loop-i-init c =
     let a = c.args in
-    (search rules, omega arith, ap (summed a.suite a.key a.nonce.now a.header.now) (sym c.start-next.ensures))
+    let S = a.u.now.setting in
+    let none : 0 ≡ min 0 a.n = omega arith in
+    ap (λ m. sum_of m (λ i. enciphers S.suite S.key (header_tweak S.nonce.now i) (block a.u.now.header.now i))) none
 
-pub loop-at-preserved : goal.loop-at-preserved
-loop-at-preserved c =
+pub loop-i-preserved : goal.loop-i-preserved
+loop-i-preserved c =
     let a = c.args in
-    let e : ℕ → List ℕ → List ℕ = λ i. enciphers a.suite a.key (header_tweak a.nonce.now i) in
-    let k = c.up_to_64-k.result in (
-      omega arith,
-      omega arith,
-      c.chunk-more.ensures
-          ∙ sum_chunk e a.header.now c.loop-at.sum c.loop-at.next.0 k c.loop-at.at c.loop-at.invariant.1 c.loop-at.invariant.2
-          ∙ ap (summed a.suite a.key a.nonce.now a.header.now) (sym c.after-next.ensures),
-    )
+    let S = a.u.now.setting in
+    let h = a.u.now.header.now in
+    let n = 64 * c.loop-i.i in
+    let k = c.min-k.result in
+    let e : ℕ → List ℕ → List ℕ = λ i. enciphers S.suite S.key (header_tweak S.nonce.now i) in
+    let of : ℕ → List ℕ = λ m. sum_of m (λ i. e i (block h i)) in
+    let more-there : n < a.n = omega arith in
+    let count : k ≡ min (a.n - n) 64 = grind (arith, common_steps) in
+    let far : min n a.n ≡ n = omega arith in
+    let place : c.after-first.result.0 ≡ n = omega arith in
+    let further : n + k ≡ min (64 * (c.loop-i.i + 1)) a.n = omega arith in
+    c.chunk-more.ensures
+    ∙ ap (λ f. sum_from c.loop-i.sum k (λ i. e (f + i) (block (take (length h - 16 * n) (drop (16 * n) h)) i))) place
+    ∙ sum_chunk e h c.loop-i.sum n k (16 * n) (omega arith) (c.loop-i.invariant ∙ ap of far)
+    ∙ ap of further
+
+pub returns : goal.returns
+returns c =
+    let a = c.args in
+    let S = a.u.now.setting in
+    let all : min (64 * c.loop-i.i) a.n ≡ a.n = omega arith in
+    c.loop-i.invariant ∙ ap (λ m. sum_of m (λ i. enciphers S.suite S.key (header_tweak S.nonce.now i) (block a.u.now.header.now i))) all

@@ -14,14 +14,16 @@ use Rattle.mode.proofs.header.sum.Goals as goal
 pub returns-then-a-eq0 : goal.returns-then-a-eq0
 returns-then-a-eq0 c =
     let a = c.args in
-    header_none (enciphers a.suite a.key) a.nonce.now a.header.now (omega arith)
+    let S = a.u.now.setting in
+    header_none (enciphers S.suite S.key) S.nonce.now a.u.now.header.now (omega arith)
 
 pub returns : goal.returns
 returns c =
     let a = c.args in
-    let h = a.header.now in
+    let S = a.u.now.setting in
+    let h = a.u.now.header.now in
     let n = (length h - 1) / 16 in
-    let tweak = c.special_tweak-t.ensures ∙ ap (special_tweak a.nonce.now) c.last_header_mark.ensures in
+    let tweak = c.special_tweak-t.ensures ∙ ap (special_tweak S.nonce.now) c.last_header_mark.ensures in
     let last = c.fill-last.ensures ∙ ap (filled 0x80) (part_rest (16 * n) h) in
-    let one = c.encipher_one.ensures ∙ (λ i. enciphers a.suite a.key (tweak i) (last i)) in
-    c.add.ensures ∙ (λ i. added (c.inner-whole.ensures i) (one i)) ∙ header-all (enciphers a.suite a.key) a.nonce.now h n (omega arith)
+    let one = c.encipher_one.ensures ∙ (λ i. enciphers S.suite S.key (tweak i) (last i)) in
+    c.add.ensures ∙ (λ i. added (c.inner-whole.ensures i) (one i)) ∙ header-all (enciphers S.suite S.key) S.nonce.now h n (omega arith)

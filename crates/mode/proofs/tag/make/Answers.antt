@@ -10,6 +10,6 @@ pub returns : goal.returns
 unfolding tag_from
 returns c =
     let a = c.args in
-    let tweak = c.special_tweak-t.ensures ∙ ap (special_tweak a.nonce.now) c.tag_mark.ensures in
+    let tweak = c.special_tweak-t.ensures ∙ ap (special_tweak a.u.now.nonce.now) c.tag_mark.ensures in
     c.add.ensures
-    ∙ ap (λ b. added b a.sum) (c.encipher_one.ensures ∙ ap (λ t. enciphers a.suite a.key t a.checksum) tweak)
+    ∙ ap (λ b. added b a.sum) (c.encipher_one.ensures ∙ ap (λ t. enciphers a.u.now.suite a.u.now.key t a.checksum) tweak)

@@ -1,8 +1,9 @@
 -- Test by test.
 use mathlib.Core.Path.{◌≡◌, ap, ◌∙◌}
 use Prim.Native.Nat.{◌-◌}
+use native.Mathlib.Omega.{arith}
 use borrow.Author.Rules.{rules}
-use lib.ListN.{length, take, drop}
+use lib.ListN.{length, take, drop, length-drop}
 use Rattle.fields.specs.Field.{has_field, after_field}
 use Rattle.fields.proofs.Fields.{field_told}
 use Rattle.kinds.specs.Kind.{kind_of}
@@ -48,9 +49,12 @@ returns-then-not-has-2 c =
     let first = found (field_is s c.has.ensures c.close_tag.ensures c.number_bytes.ensures.is) c.if-not-has.false in
     rw (first, missed (second s kind.number_bytes c.close_header_len-after.result c.has-2.result c.close_header_len-after.ensures.is c.has-2.ensures) c.if-not-has-2.true)
 
-pub number_at-count-requires : goal.number_at-count-requires
-number_at-count-requires c =
-    let kind = kind_of c.args.kind in
+-- the tag behind it has 16 bytes
+pub header_number-count-requires : goal.header_number-count-requires
+unfolding after_field
+header_number-count-requires c =
+    let bytes = (kind_of c.args.kind).number_bytes in
     let s = c.args.s.now in
-    let first = found (field_is s c.has.ensures c.close_tag.ensures c.number_bytes.ensures.is) c.if-not-has.false in
-    (field_told kind.close_tag kind.number_bytes s first).0
+    let looked = second s bytes c.close_header_len-after.result c.has-2.result c.close_header_len-after.ensures.is c.has-2.ensures in
+    let h = (field_told 0x12 16 (after_field bytes s) (found looked c.if-not-has-2.false)).0 in
+    omega (arith, length-drop (3 + bytes) s)

@@ -1,8 +1,12 @@
--- Plane by plane.
+-- All planes are there.
+use mathlib.Core.Path.{◌≡◌}
+use native.Mathlib.Omega.{arith}
+use Rattle.bits.proofs.Elements.{replaced_all}
 use Rattle.plane_tweakeys.specs.Shared
 use Rattle.plane_tweakeys.proofs.sharing.spread.Goals as goal
 
 pub returns : goal.returns
 unfolding Shared.spread
 returns c =
-    cc
+    let all : c.loop-j.j ≡ 16 = omega arith in
+    replaced_all 0 (rw all at c.loop-j.invariant)

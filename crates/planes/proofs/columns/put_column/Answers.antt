@@ -1,7 +1,13 @@
--- The eight stores put the column.
-use Rattle.planes.proofs.Column.{stores_put}
+-- All rows have the planes put.
+use mathlib.Core.List.{[]}
+use mathlib.Core.Path.{◌≡◌}
+use native.Mathlib.Omega.{arith}
+use Rattle.bits.proofs.Elements.{replaced_all}
+use Rattle.planes.specs.Planes.{with_column}
 use Rattle.planes.proofs.columns.put_column.Goals as goal
 
 pub returns : goal.returns
+unfolding with_column
 returns c =
-    stores_put _ c.requires.0.long _ _
+    let all : c.loop-i.i ≡ 8 = omega arith in
+    replaced_all [] (rw all at c.loop-i.invariant)

@@ -15,14 +15,12 @@ blocks y b = bytes (rows_in y b)
 pub loop-b-preserved : goal.loop-b-preserved
 loop-b-preserved c =
     let y = c.args.y.now in
-    let block = c.store.ensures ∙ ap bytes c.state_in.ensures in (
-      omega arith,
-      c.put_at.ensures
-          ∙ (λ i. paste (c.loop-b.invariant.1 i) (c.args.at + 16 * c.loop-b.b) (block i) 16)
-          ∙ paste_strung c.args.d.now c.args.at c.loop-b.b (blocks y) (rows_sixteen y) (omega (arith, c.requires.1)),
-    )
+    let block = c.store.ensures ∙ ap bytes c.state_in.ensures in
+    c.put_at.ensures
+    ∙ (λ i. paste (c.loop-b.invariant i) (c.args.at + 16 * c.loop-b.b) (block i) 16)
+    ∙ paste_strung c.args.d.now c.args.at c.loop-b.b (blocks y) (rows_sixteen y) (omega (arith, c.requires))
 
 pub returns : goal.returns
 returns c =
     let all : c.loop-b.b ≡ 64 = omega arith in
-    rw all at c.loop-b.invariant.1
+    rw all at c.loop-b.invariant

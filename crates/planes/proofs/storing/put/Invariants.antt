@@ -1,7 +1,7 @@
 -- The loop has put the first b blocks.
 use mathlib.Core.List.{List}
 use mathlib.Core.Path.{◌≡◌}
-use Prim.Native.Nat.{ℕ, ◌-◌, ◌*◌, ◌≤◌}
+use Prim.Native.Nat.{ℕ, ◌*◌}
 use lib.Seq.{paste}
 use Rattle.blockwise.specs.Blocks.{strung}
 use Rattle.planes.specs.Loaded.{rows_in}
@@ -12,7 +12,4 @@ abbrev blocks : List (List ℕ) → ℕ → List ℕ
 blocks y b = bytes (rows_in y b)
 
 abbrev pub invariant-loop-b : goal.invariant-loop-b
-invariant-loop-b l = (l.b ≤ 64) × (l.d ≡ paste l.initial.d l.at (strung l.b (blocks l.y)) (16 * l.b))
-
-abbrev pub decreases-loop-b : goal.decreases-loop-b
-decreases-loop-b l = 64 - l.b
+invariant-loop-b l = l.d ≡ paste l.initial.d l.at (strung l.b (blocks l.y)) (16 * l.b)

@@ -4,15 +4,11 @@ use mathlib.Core.Path.{ap, ◌∙◌}
 use Prim.Native.Nat.{ℕ}
 use lib.Seq.{paste}
 use Rattle.blockwise.proofs.Each.{strung_ext}
-use Rattle.planes.proofs.Turned.{turned_shaped, rows_turned}
+use Rattle.planes.proofs.Turned.{rows_turned}
 use Rattle.planes.specs.Planes.{lane}
 use Rattle.planes.specs.Loaded.{rows_in}
 use Rattle.state.specs.Block.{bytes}
 use Rattle.planes.proofs.storing.store.Goals as goal
-
-pub put-requires : goal.put-requires
-put-requires c =
-    (rw c.turn.ensures (turned_shaped _), c.requires.1)
 
 pub returns : goal.returns
 returns c =

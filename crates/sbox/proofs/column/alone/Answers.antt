@@ -1,6 +1,6 @@
 -- Row i is bit i of the byte.
 use mathlib.Core.List.{◌∷◌}
-use mathlib.Core.Path.{sym, ap}
+use mathlib.Core.Path.{sym, ap, ◌∙◌}
 use Prim.Native.Nat.{ℕ, suc}
 use Rattle.bits.specs.Bit.{bit}
 use Rattle.bits.specs.Table.{tab}
@@ -11,4 +11,5 @@ use Rattle.sbox.proofs.column.alone.Goals as goal
 pub returns : goal.returns
 unfolding Sbox.alone bit
 returns c =
-    ap (λ (n : ℕ). n ∷ tab 7 (λ i. bit c.args.b (suc i))) (sym (bit_zero c.args.b))
+    let x = c.from-x.result in
+    ap (λ (n : ℕ). n ∷ tab 7 (λ i. bit x (suc i))) (sym (bit_zero x)) ∙ ap Sbox.alone c.from-x.ensures

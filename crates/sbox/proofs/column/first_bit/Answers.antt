@@ -1,6 +1,5 @@
 -- The remainder by 2 is bit 0.
 use mathlib.Core.Path.{sym}
-use borrow.Author.Rules.{rules}
 use native.Mathlib.Omega.{arith}
 use Rattle.bits.proofs.Bits.{bit_zero}
 use Rattle.sbox.proofs.column.first_bit.Goals as goal

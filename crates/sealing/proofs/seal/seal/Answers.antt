@@ -5,56 +5,53 @@ use Prim.Native.Nat.{ℕ, ◌+◌}
 use native.Mathlib.Nat.{le_of_eq}
 use lib.ListN.{length, drop}
 use lib.Seq.{take_all}
-use Rattle.sealing.specs.Seal.{sealed, seal_outcome, seal_answer, seal_buffer}
-use Rattle.sealing.specs.declared.seal.SealAnswer.TheVariants.{Sealed}
+use Rattle.std.proofs.lemmas.Result.{err_from_is_err_and}
+use Rattle.sealing.specs.Seal.{sealed, seal_outcome, seal_answer, seal_buffer, made_sealed}
 use Rattle.sealing.proofs.Sealed.{Passed, passed, seal_refused, seal_done}
 use Rattle.sealing.proofs.seal.seal.Goals as goal
+use Rattle.sealing.proofs.seal.seal.Goals.{In_ok-seal_tests}
 
-pub block_at-requires : goal.block_at-requires
-block_at-requires c =
+-- what the tests leave true
+given : (c : In_ok-seal_tests) → Passed c.args.suite c.args.key.now c.args.nonce.now c.args.header.now (length c.args.text.now) c.args.out.now
+given c = passed c.args.suite c.args.key.now c.args.nonce.now c.args.header.now (length c.args.text.now) c.args.out.now (sym c.in_ok-seal_tests.ensures)
+
+pub returns-in_err-seal_tests : goal.returns-in_err-seal_tests
+unfolding seal_outcome seal_answer seal_buffer
+returns-in_err-seal_tests c =
     let a = c.args in
-    let given : Passed a.suite a.key.now a.nonce.now a.header.now (length a.text.now) a.out.now =
-    passed a.suite a.key.now a.nonce.now a.header.now (length a.text.now) a.out.now (sym c.in-Done.ensures) in
-    le_of_eq (sym given.whole)
+    let p = err_from_is_err_and c.from_residual.result c.from_residual.ensures.1 in
+    rw (p.1, p.2)
+    (seal_refused a.suite a.key.now a.nonce.now a.header.now (length a.text.now) a.out.now c.in_err-seal_tests.field-0.0
+    (sym c.in_err-seal_tests.ensures) a.text.now)
+
+pub invariant_of-setting : goal.invariant_of-setting
+invariant_of-setting c =
+    let g = given (goal.at.invariant_of-setting c).In_ok-seal_tests in
+    record { suite_listed = g.header.usable.suite; nonce_short = g.header.usable.short }
+
+pub invariant_of-u : goal.invariant_of-u
+invariant_of-u c = record { header_short = (given (goal.at.invariant_of-u c).In_ok-seal_tests).header.small }
+
+pub block_at-key-requires : goal.block_at-key-requires
+block_at-key-requires c = le_of_eq (sym (given c).whole)
 
 pub write_sealed-requires : goal.write_sealed-requires
 write_sealed-requires c =
-    let a = c.args in
-    let given : Passed a.suite a.key.now a.nonce.now a.header.now (length a.text.now) a.out.now =
-    passed a.suite a.key.now a.nonce.now a.header.now (length a.text.now) a.out.now (sym c.in-Done.ensures) in
-    (given.header, record { usable = given.header.usable; small = given.small }, given.room)
+    let g = given (goal.at.write_sealed-requires c).In_ok-seal_tests in
+    (g.small, g.room)
 
-pub blocks_of-requires : goal.blocks_of-requires
-blocks_of-requires c =
-    let a = c.args in
-    let given : Passed a.suite a.key.now a.nonce.now a.header.now (length a.text.now) a.out.now =
-    passed a.suite a.key.now a.nonce.now a.header.now (length a.text.now) a.out.now (sym c.in-Done.ensures) in
-    given.header.small
-
-pub blocks_of-requires-in-Done : goal.blocks_of-requires-in-Done
-blocks_of-requires-in-Done c =
-    let a = c.args in
-    let given : Passed a.suite a.key.now a.nonce.now a.header.now (length a.text.now) a.out.now =
-    passed a.suite a.key.now a.nonce.now a.header.now (length a.text.now) a.out.now (sym c.in-Done.ensures) in
-    given.small
-
-pub returns-in-Refused : goal.returns-in-Refused
+pub returns : goal.returns
 unfolding seal_outcome seal_answer seal_buffer
-returns-in-Refused c =
+returns c =
     let a = c.args in
-    seal_refused a.suite a.key.now a.nonce.now a.header.now (length a.text.now) a.out.now c.in-Refused.why (sym c.in-Refused.ensures) a.text.now
-
-pub returns-in-Done : goal.returns-in-Done
-unfolding seal_outcome seal_answer seal_buffer
-returns-in-Done c =
-    let a = c.args in
-    let given : Passed a.suite a.key.now a.nonce.now a.header.now (length a.text.now) a.out.now =
-    passed a.suite a.key.now a.nonce.now a.header.now (length a.text.now) a.out.now (sym c.in-Done.ensures) in
+    let g = given (goal.at.returns c).In_ok-seal_tests in
     let t = a.text.now in
-    let is = seal_done a.suite a.key.now a.nonce.now a.header.now (length a.text.now) a.out.now (sym c.in-Done.ensures) t refl in
-    let key : c.block_at.result ≡ a.key.now = c.block_at.ensures ∙ take_all 16 a.key.now (le_of_eq given.whole) in (
-      (λ j. Sealed (length a.text.now + 16) (c.blocks_of.ensures j + c.blocks_of-in-Done.ensures j + 1)) ∙ is.0,
-      c.write_sealed.ensures
-          ∙ ap (λ (x : List ℕ). sealed a.suite.cipher a.suite.steps x a.nonce.now a.header.now t ++ drop (length a.text.now + 16) a.out.now) key
+    let is =
+    seal_done a.suite a.key.now a.nonce.now a.header.now (length a.text.now) a.out.now (sym c.in_ok-seal_tests.ensures) t
+    refl in
+    let key : c.block_at-key.result ≡ a.key.now = c.block_at-key.ensures ∙ take_all 16 a.key.now (le_of_eq g.whole) in (
+      (λ j. made_sealed (c.write_sealed.ensures.0 j) (c.write_sealed.ensures.1 j)) ∙ is.0,
+      c.write_sealed.ensures.2
+          ∙ ap (λ (x : List ℕ). sealed a.suite.cipher a.suite.steps x a.nonce.now a.header.now t ++ drop ((length a.text.now) + 16) a.out.now) key
           ∙ is.1,
     )

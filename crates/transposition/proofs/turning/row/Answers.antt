@@ -6,8 +6,8 @@ use Rattle.transposition.proofs.turning.row.Goals as goal
 pub returns : goal.returns
 unfolding turned_row
 returns c =
-    c.level_8.ensures
+    c.level-4.ensures
     ∙ ap (level_in 8 0x00FF00FF00FF00FF)
-    (c.level_4.ensures
+    (c.level-3.ensures
     ∙ ap (level_in 4 0x0F0F0F0F0F0F0F0F)
-    (c.level_2.ensures ∙ ap (level_in 2 0x3333333333333333) c.level_1.ensures))
+    (c.level-2.ensures ∙ ap (level_in 2 0x3333333333333333) c.level.ensures))

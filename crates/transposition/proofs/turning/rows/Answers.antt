@@ -1,4 +1,4 @@
--- The first i rows are turned.
+-- All rows are turned.
 use mathlib.Core.List.{[]}
 use mathlib.Core.Path.{◌≡◌, ◌∙◌}
 use native.Mathlib.Omega.{arith}
@@ -8,5 +8,5 @@ use Rattle.transposition.proofs.turning.rows.Goals as goal
 
 pub returns : goal.returns
 returns c =
-    let all : c.loop-i.i ≡ 8 = omega arith in
-    replaced_all [] (rw all at c.loop-i.invariant.1) ∙ within_rows c.args.x.now
+    let all : c.loop-r.r-index ≡ 8 = omega arith in
+    replaced_all [] (rw all at c.loop-r.invariant) ∙ within_rows c.args.x.now

@@ -6,5 +6,5 @@ use Rattle.transposition.proofs.turning.turn.Goals as goal
 pub returns : goal.returns
 unfolding turned
 returns c =
-    c.level_32.ensures
-    ∙ ap (level 32 0x00000000FFFFFFFF) (c.level_16.ensures ∙ ap (level 16 0x0000FFFF0000FFFF) c.rows.ensures)
+    c.level-2.ensures
+    ∙ ap (level 32 0x00000000FFFFFFFF) (c.level.ensures ∙ ap (level 16 0x0000FFFF0000FFFF) c.rows.ensures)
