@@ -29,10 +29,13 @@ pub fn put_at(d: &mut [u8], at: usize, b: [u8; 16])
     d[at..at + 16].copy_from_slice(&b);
 }
 
-// The bytes of s at the start of d; likewise.
+// The bytes of s at the start of d; likewise. A loop, which is compiled to memcpy; copy_from_slice, of as many bytes as are lent, would ask for
+// memmove.
 pub fn copy(s: &[u8], d: &mut [u8])
     requires { length s.now ≤ length d.old }
     ensures { d.new ≡ s.now ++ drop (length s.now) d.old }
 {
-    d[..s.len()].copy_from_slice(s);
+    for i in 0..s.len() {
+        d[i] = s[i];
+    }
 }

@@ -3,8 +3,10 @@
 // steps that a suite has.
 #![tactic(auto)]
 
-ghost use Rattle.std.specs.Prelude.{cond, Bool, true, false, List, ℕ, ◌≡◌, ◌+◌, ◌*◌, ◌-◌, ◌≤◌, ◌<◌};
+ghost use Rattle.std.specs.Prelude.{cond, Bool, true, false, List, ℕ, ◌≡◌, ◌+◌, ◌*◌, ◌-◌, ◌≤◌, ◌<◌, get_or};
+ghost use Rattle.bits.specs.Table.{tab};
 ghost use Rattle.lbox.specs.Lbox;
+ghost use Rattle.lbox.specs.Tables.{looked_up};
 ghost use Rattle.sbox.specs.Sbox;
 ghost use Rattle.tables.specs.LBox.{matrix};
 ghost use Rattle.rounds.specs.declared.Cipher.{Cipher};
@@ -26,6 +28,13 @@ static CONSTANTS: [u8; 29] = *b"\x00\x1B\x36\x51\x6C\x87\xA2\xBD\
     \xD8\xF3\x0E\x29\x44\x5F\x7A\x95\
     \xB0\xCB\xE6\x01\x1C\x37\x52\x6D\
     \x88\xA3\xBE\xD9\xF4";
+
+// All of them.
+pub fn constants() -> [u8; 29]
+    ensures { result ≡ tab 29 constant }
+{
+    CONSTANTS
+}
 
 // The constant of a round.
 pub fn constant(r: usize) -> u16
@@ -64,6 +73,23 @@ pub fn lbox_of(ahead: bool, k: Cipher) -> LBox
         (Cipher::Scream, false) => LBox::ScreamInverse,
         (Cipher::IScream, _) => LBox::IScream,
     }
+}
+
+// The L-box layer by any two joined tables.
+#[inline(always)]
+pub fn lbox_layer(w: [u16; 8], low: &[u16; 256], high: &[u16; 256]) -> [u16; 8]
+    ensures { result ≡ tab 8 (λ i. looked_up low.now high.now (get_or w i 0)) }
+{
+    [
+        lbox::look_up(w[0], low, high),
+        lbox::look_up(w[1], low, high),
+        lbox::look_up(w[2], low, high),
+        lbox::look_up(w[3], low, high),
+        lbox::look_up(w[4], low, high),
+        lbox::look_up(w[5], low, high),
+        lbox::look_up(w[6], low, high),
+        lbox::look_up(w[7], low, high),
+    ]
 }
 
 // What computes the layer of an L-box.

@@ -59,6 +59,13 @@ impl LBox {
             LBox::IScream => lbox::join(&iscream::T21, &iscream::T22),
         }
     }
+
+    // A row through the L-box, of tables that are joined for it alone.
+    pub fn row(self, x: u16) -> u16
+        ensures { result ≡ Lbox.times (matrix self) x }
+    {
+        lbox::look_up(x, &self.low(), &self.high())
+    }
 }
 
 // An L-box with its joined tables, which are lent.

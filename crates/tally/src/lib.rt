@@ -114,7 +114,7 @@ impl<const N: usize> Nodes<N> {
 }
 
 impl<const N: usize> Tally<N> {
-    ghost use Rattle.tally.specs.Code.{Empty, Counts};
+    ghost use Rattle.tally.specs.Code.{Empty, Counts, Searched};
 
     // Nothing is counted.
     pub fn new() -> Self
@@ -171,19 +171,22 @@ impl<const N: usize> Tally<N> {
         }
     }
 
-    // How many trigrams of t are shared with those that are counted; each takes one away.
+    // How many trigrams of t are shared with those that are counted; each takes one away, and the nodes stay.
     pub fn take_all(&mut self, t: &[u8]) -> usize
-        ensures { (x : List ℕ) → Counts x self.old → result ≡ shared x (trigrams t.now) }
+        ensures is { (x : List ℕ) → Counts x self.old → result ≡ shared x (trigrams t.now) }
+        ensures nodes { Searched self.old.nodes self.new.nodes }
     {
         self.nodes.take_all(t, &mut self.counts)
     }
 
-    // The same, in a copy of the counts, which stay.
+    // The same, in a copy of the counts, which stay. The copy is made by a loop, as in `blockwise::copy`.
     pub fn compare(&mut self, t: &[u8], left: &mut [u16; N]) -> usize
         ensures is { (x : List ℕ) → Counts x self.old → result ≡ shared x (trigrams t.now) }
         ensures stay { (x : List ℕ) → Counts x self.old → Counts x self.new }
     {
-        left[..self.nodes.used].copy_from_slice(&self.counts[..self.nodes.used]);
+        for i in 0..self.nodes.used {
+            left[i] = self.counts[i];
+        }
         self.nodes.take_all(t, left)
     }
 }
